@@ -1,0 +1,69 @@
+-- When a length exists. Assumes nothing.
+use mathlib.Core.Path.{_≡_, subst}
+use mathlib.Core.Logic.{_≢_, _⊎_, inl, inr, ⊎-elim, _↔_}
+use Prim.Native.Nat.{ℕ, zero, suc, _+_, _-_, _≤_, _<_}
+use native.Mathlib.Omega.{arith}
+use Rattle.model.specs.Length.{Every, Smallest, Largest, NoLength, HasSmallest, Upward}
+use Rattle.model.proofs.Logic.{eq-or, dec-every}
+
+-- there is one smallest length, and one largest
+pub smallest-one : {P : ℕ → ℕ → Type 0} {m k l : ℕ} → Smallest P m k → Smallest P m l → k ≡ l
+smallest-one {k = k} {l = l} a b =
+    let p : l < k → ⊥ = λ h. a .least l (b .low) h (b .every) in
+    let q : k < l → ⊥ = λ h. b .least k (a .low) h (a .every) in
+    omega arith
+
+pub largest-one : {P : ℕ → ℕ → Type 0} {m k l : ℕ} → Largest P m k → Largest P m l → k ≡ l
+largest-one {k = k} {l = l} a b =
+    let p : l < k → ⊥ = λ h. b .greatest k h (a .high) (a .every) in
+    let q : k < l → ⊥ = λ h. a .greatest l h (b .high) (b .every) in
+    omega arith
+
+-- passing is decided on the windows of the picks 1 to m
+abbrev pub Decided : (ℕ → ℕ → Type 0) → ℕ → Type 0
+Decided P m = (i j : ℕ) → 1 ≤ i → i ≤ j → j ≤ m → Dec (P i j)
+
+dec-length : (P : ℕ → ℕ → Type 0) (m k : ℕ) → Decided P m → 1 ≤ k → Dec (Every P m k)
+dec-length P m k d h = go (dec-every (suc m - k) (λ i. P (suc i) (i + k)) (λ i l. d (suc i) (i + k) (omega arith) (omega arith) (omega arith)))
+  where
+    at : ((i : ℕ) → i < suc m - k → P (suc i) (i + k)) → Every P m k
+    at f zero j a b c = absurd (omega arith)
+    at f (suc i) j a b c = let e : i + k ≡ j = omega arith in subst (λ (x : ℕ). P (suc i) x) e (f i (omega arith))
+
+    go : Dec ((i : ℕ) → i < suc m - k → P (suc i) (i + k)) → Dec (Every P m k)
+    go (yes f) = yes (at f)
+    go (no f) = no (λ e. f (λ i l. e (suc i) (i + k) (omega arith) (omega arith) (omega arith)))
+
+-- the least number from 1 to m of which Q holds
+Least : (ℕ → Type 0) → ℕ → Type 0
+Least Q m = (k : ℕ) × (1 ≤ k) × (k ≤ m) × Q k × ((l : ℕ) → 1 ≤ l → l < k → Q l → ⊥)
+
+least : (Q : ℕ → Type 0) → ((k : ℕ) → 1 ≤ k → Dec (Q k)) → (m : ℕ) → Least Q m ⊎ ((l : ℕ) → 1 ≤ l → l ≤ m → Q l → ⊥)
+unfolding Least
+least Q d zero = inr (λ l a b t. omega arith)
+least Q d (suc m) = go (least Q d m) (d (suc m) (omega arith))
+  where
+    go : Least Q m ⊎ ((l : ℕ) → 1 ≤ l → l ≤ m → Q l → ⊥) → Dec (Q (suc m)) → Least Q (suc m) ⊎ ((l : ℕ) → 1 ≤ l → l ≤ suc m → Q l → ⊥)
+    go (inl r) c = let h : r .0 ≤ m = r .2 in inl (r .0, r .1, omega arith, r .3, r .4)
+    go (inr none) (yes t) = inl (suc m, omega arith, omega arith, t, λ l a b s. none l a (omega arith) s)
+    go (inr none) (no g) = inr (λ l a b s. ⊎-elim (λ (e : l ≡ suc m). g (subst Q e s)) (λ (ne : l ≢ suc m). none l a (omega arith) s) (eq-or l (suc m)))
+
+-- the window of all picks is the only one of its length
+whole : (P : ℕ → ℕ → Type 0) (m : ℕ) → P 1 m → Every P m m
+whole P m p i j a b c = let e : 1 ≡ i = omega arith in let f : m ≡ j = omega arith in subst (λ (x : ℕ). P x j) e (subst (λ (x : ℕ). P 1 x) f p)
+
+-- THEOREM. A smallest length exists exactly when the window of all picks passes, and none exactly when it does not.
+pub smallest-whole : (P : ℕ → ℕ → Type 0) (m : ℕ) → Decided P m → Upward P m → 1 ≤ m → HasSmallest P m ↔ P 1 m
+unfolding Least
+smallest-whole P m d up h = (
+  λ r. let s = r .1 in let l = s .low in let u = s .high in up 1 (r .0) 1 m (omega arith) (omega arith) l u (omega arith) (s .every 1 (r .0) (omega arith) u (omega arith)),
+  λ p. ⊎-elim (λ (r : Least (Every P m) m). (r .0, record { low = r .1; high = r .2; every = r .3; least = r .4 }))
+      (λ (z : (l : ℕ) → 1 ≤ l → l ≤ m → Every P m l → ⊥). absurd (z m h (omega arith) (whole P m p)))
+      (least (Every P m) (λ k a. dec-length P m k d a) m),
+)
+
+pub none-whole : (P : ℕ → ℕ → Type 0) (m : ℕ) → Upward P m → 1 ≤ m → NoLength P m ↔ (P 1 m → ⊥)
+none-whole P m up h = (
+  λ z p. z m h (omega arith) (whole P m p),
+  λ z k a b e. z (up 1 k 1 m (omega arith) (omega arith) a b (omega arith) (e 1 k (omega arith) b (omega arith))),
+)

@@ -1,0 +1,9 @@
+-- Laws of the meaning. No code: `model` declares types alone.
+pub mod Logic
+pub mod Bits
+pub mod Links
+pub mod Trips
+pub mod Hops
+pub mod Windows
+pub mod Lengths
+pub mod Monotone

@@ -1,0 +1,5 @@
+-- The meaning: what a reader must believe. Laws about it stand in proofs/.
+pub mod Recording
+pub mod Journey
+pub mod Measures
+pub mod Length
