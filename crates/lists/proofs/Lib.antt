@@ -1,0 +1,2 @@
+-- Laws of lists made by index.
+pub mod Tab

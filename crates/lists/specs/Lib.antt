@@ -1,0 +1,2 @@
+-- Definitions that the contracts of `lists` cite.
+pub mod Tab

@@ -1,0 +1,51 @@
+// Words selected, copied and set to zero.
+ghost use mathlib.Core.Path.{_≡_};
+ghost use Prim.Native.Nat.{_≤_};
+ghost use lib.ListN.{length};
+ghost use lib.Dec.{eqb};
+ghost use Rattle.lists.specs.Tab.{kept, zeros, padded};
+
+// x where a bit is 1, else 0: a select, so that a loop over it has no branch.
+pub fn keep(x: u32, digit: u32) -> u32
+    ensures { λ r. ⌜ r ≡ kept (eqb digit 1) x ⌝ }
+{
+    if digit == 1 { x } else { 0 }
+}
+
+// Copies words over out, which is as long.
+pub fn copy_over(out: &mut [u32], words: &[u32], n: usize)
+    requires { ⌜ (n ≡ length (now out)) × (n ≡ length (now words)) ⌝ }
+    ensures { λ _. ⌜ now (out .exit) ≡ now (words .entry) ⌝ }
+{
+    for u in 0..n {
+        out[u] = words[u];
+    }
+}
+
+// Sets the words of out to zero.
+pub fn zero_over(out: &mut [u32], n: usize)
+    requires { ⌜ n ≡ length (now out) ⌝ }
+    ensures { λ _. ⌜ now (out .exit) ≡ zeros n ⌝ }
+{
+    for u in 0..n {
+        out[u] = 0;
+    }
+}
+
+fn no_words() -> [u32; 32]
+    ensures { λ r. ⌜ r ≡ zeros 32 ⌝ }
+{
+    [0u32; 32]
+}
+
+// The n words of xs by value, and zeros up to 32.
+pub fn load(xs: &[u32], n: usize) -> [u32; 32]
+    requires { ⌜ (n ≤ 32) × (n ≡ length (now xs)) ⌝ }
+    ensures { λ r. ⌜ r ≡ padded 32 (now (xs .entry)) ⌝ }
+{
+    let mut out = no_words();
+    for u in 0..n {
+        out[u] = xs[u];
+    }
+    out
+}
