@@ -51,46 +51,68 @@ num-less (suc n) S u h t =
     ⊎-elim (λ (e : n ≡ u). let a = val-out S u n e in let b : val (S n) ≡ 1 = ap val (T→≡ (S n) (subst (λ (k : ℕ). T (S k)) (sym e) t)) in omega (arith, num-le n S u))
     (λ (ne : n ≢ u). omega (arith, num-less n S u (omega arith) t, val-mono (less S u n) (S n) (λ k. and-l (S n) (not (eqb n u)) k))) (eq-or n u)
 
--- a walk whose boards all lie in S
-data Within (p : List ℕ) (S : ℕ → Bool) : ℕ → ℕ → Type 0 where
-  halt : {u : ℕ} → T (S u) → Within p S u u
-  move : {u w v : ℕ} → T (S u) → T (link p u w) → Within p S w v → Within p S u v
+-- c steps of R lead from u to v
+pub data Path (R : ℕ → ℕ → Type 0) : ℕ → ℕ → ℕ → Type 0 where
+  end : {u : ℕ} → Path R 0 u u
+  next : {c u w v : ℕ} → R u w → Path R c w v → Path R (suc c) u v
 
-within : {p : List ℕ} {c u v : ℕ} → Walk p c u v → Within p (λ w. true) u v
-within stop = halt tt
-within (step k s) = move tt k (within s)
+-- steps of R whose boards all lie in S
+data Among (R : ℕ → ℕ → Type 0) (S : ℕ → Bool) : ℕ → ℕ → Type 0 where
+  halt : {u : ℕ} → T (S u) → Among R S u u
+  move : {u w v : ℕ} → T (S u) → R u w → Among R S w v → Among R S u v
 
-starts : {p : List ℕ} {S : ℕ → Bool} {u v : ℕ} → Within p S u v → T (S u)
-starts (halt t) = t
-starts (move t k s) = t
+module _ {R : ℕ → ℕ → Type 0} where
+  anywhere : {c u v : ℕ} → Path R c u v → Among R (λ w. true) u v
+  anywhere end = halt tt
+  anywhere (next k s) = move tt k (anywhere s)
 
--- after its last visit to u, a walk goes on without u
-leave : {p : List ℕ} {S : ℕ → Bool} {x v : ℕ} (u : ℕ) → u ≢ v → Within p S x v
-    → Within p (less S u) x v ⊎ ((w : ℕ) × T (link p u w) × Within p (less S u) w v)
-leave {S = S} u ne (halt {u = v} t) = inl (halt (and-both (S v) (not (eqb v u)) t (eqb-ne v u (λ e. ne (sym e)))))
-leave {p} {S} {v = v} u ne (move {u = x} {w = w} t k s) = go (leave u ne s)
-  where
-    go : Within p (less S u) w v ⊎ ((y : ℕ) × T (link p u y) × Within p (less S u) y v) → Within p (less S u) x v ⊎ ((y : ℕ) × T (link p u y) × Within p (less S u) y v)
-    go (inr r) = inr r
-    go (inl r) =
-        ⊎-elim (λ (e : x ≡ u). inr (w, subst (λ (y : ℕ). T (link p y w)) e k, r))
-        (λ (d : x ≢ u). inl (move (and-both (S x) (not (eqb x u)) t (eqb-ne x u d)) k r)) (eq-or x u)
+  starts : {S : ℕ → Bool} {u v : ℕ} → Among R S u v → T (S u)
+  starts (halt t) = t
+  starts (move t k s) = t
 
--- so a walk in a set of at most k boards can be one of fewer than k links
-cut : (n : ℕ) (p : List ℕ) → Words n p → (k : ℕ) (S : ℕ → Bool) → num n S ≤ k → (u v : ℕ) → u < n → Within p S u v → (c : ℕ) × (c < k) × Walk p c u v
-cut n p wp zero S l u v hu s = absurd (not-suc-le-zero (le-trans (num-less n S u hu (starts s)) l))
-cut n p wp (suc k) S l u v hu s =
-    ⊎-elim (λ (e : u ≡ v). (0, omega arith, subst (λ (y : ℕ). Walk p 0 u y) e stop))
-    (λ (ne : u ≢ v). ⊎-elim
-    (λ (a : Within p (less S u) u v). absurd (ne-eqb u u (and-r (S u) (not (eqb u u)) (starts a)) refl))
-    (λ (a : (w : ℕ) × T (link p u w) × Within p (less S u) w v).
-    let q = cut n p wp k (less S u) (omega (arith, num-less n S u hu (starts s))) (a .0) v (link-to n p wp u (a .0) (a .1)) (a .2) in
-    let b : q .0 < k = q .1 in
-    (suc (q .0), omega arith, step (a .1) (q .2)))
-    (leave u ne s)) (eq-or u v)
+  -- after its last visit to u, a path goes on without u
+  leave : {S : ℕ → Bool} {x v : ℕ} (u : ℕ) → u ≢ v → Among R S x v → Among R (less S u) x v ⊎ ((w : ℕ) × R u w × Among R (less S u) w v)
+  leave {S = S} u ne (halt {u = v} t) = inl (halt (and-both (S v) (not (eqb v u)) t (eqb-ne v u (λ e. ne (sym e)))))
+  leave {S} {v = v} u ne (move {u = x} {w = w} t k s) = go (leave u ne s)
+    where
+      go : Among R (less S u) w v ⊎ ((y : ℕ) × R u y × Among R (less S u) y v) → Among R (less S u) x v ⊎ ((y : ℕ) × R u y × Among R (less S u) y v)
+      go (inr r) = inr r
+      go (inl r) =
+          ⊎-elim (λ (e : x ≡ u). inr (w, subst (λ (y : ℕ). R y w) e k, r)) (λ (d : x ≢ u). inl (move (and-both (S x) (not (eqb x u)) t (eqb-ne x u d)) k r)) (eq-or x u)
+
+  -- so a path in a set of at most k boards can be one of fewer than k steps
+  cut : (n : ℕ) → ((u w : ℕ) → R u w → w < n) → (k : ℕ) (S : ℕ → Bool) → num n S ≤ k → (u v : ℕ) → u < n → Among R S u v → (c : ℕ) × (c < k) × Path R c u v
+  cut n low zero S l u v hu s = absurd (not-suc-le-zero (le-trans (num-less n S u hu (starts s)) l))
+  cut n low (suc k) S l u v hu s =
+      ⊎-elim (λ (e : u ≡ v). (0, omega arith, subst (λ (y : ℕ). Path R 0 u y) e end))
+      (λ (ne : u ≢ v). ⊎-elim
+      (λ (a : Among R (less S u) u v). absurd (ne-eqb u u (and-r (S u) (not (eqb u u)) (starts a)) refl))
+      (λ (a : (w : ℕ) × R u w × Among R (less S u) w v).
+      let q = cut n low k (less S u) (omega (arith, num-less n S u hu (starts s))) (a .0) v (low u (a .0) (a .1)) (a .2) in
+      let b : q .0 < k = q .1 in
+      (suc (q .0), omega arith, next (a .1) (q .2)))
+      (leave u ne s)) (eq-or u v)
+
+-- a path over boards below n can be one of fewer than n steps
+pub path-short : {R : ℕ → ℕ → Type 0} {c u v : ℕ} (n : ℕ) → ((u w : ℕ) → R u w → w < n) → u < n → Path R c u v → (d : ℕ) × (d < n) × Path R d u v
+path-short {u = u} {v} n low hu s = cut n low n (λ w. true) (omega (arith, num-all n)) u v hu (anywhere s)
+
+-- walks in one pick are paths along its links
+abbrev Along : List ℕ → ℕ → ℕ → Type 0
+Along p u v = T (link p u v)
+
+walk-path : {p : List ℕ} {c u v : ℕ} → Walk p c u v → Path (Along p) c u v
+walk-path stop = end
+walk-path (step k s) = next k (walk-path s)
+
+path-walk : (p : List ℕ) {c u v : ℕ} → Path (Along p) c u v → Walk p c u v
+path-walk p end = stop
+path-walk p (next k s) = step k (path-walk p s)
 
 pub walk-short : {n : ℕ} {p : List ℕ} {c u v : ℕ} → Words n p → u < n → Walk p c u v → (d : ℕ) × (d < n) × Walk p d u v
-walk-short {n} {p} {c} {u} {v} w hu s = cut n p w n (λ w. true) (omega (arith, num-all n)) u v hu (within s)
+walk-short {n} {p} w hu s =
+    let q = path-short n (λ u x l. link-to n p w u x l) hu (walk-path s) in
+    (q .0, q .1, path-walk p (q .2))
 
 trip-any : (n g : ℕ) (L : Limit) → n ≤ suc g → (r : List (List ℕ)) → Recording n r → (u v : ℕ) → u < n → Trip L r u v → Trip (atMost g) r u v
 trip-any n g L l [] k u v hu t = t

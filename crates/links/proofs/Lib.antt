@@ -1,0 +1,5 @@
+-- Laws of the tables of links.
+pub mod Rows
+pub mod Bits
+pub mod Closure
+pub mod Padded

@@ -1,0 +1,85 @@
+-- `links::add_column` meets its contract. The invariant is `Made`; word u is read before it is written (`made-read`).
+-- Assumes nothing.
+use mathlib.Core.Path.{_∙_, ap}
+use Prim.Native.Nat.{ℕ, _-_}
+use lib.Bits.{bitOr}
+use Rattle.model.specs.Recording.{bit, link}
+use Rattle.lists.proofs.Tab.{Made, made-start, made-turn, made-read, made-all}
+use Rattle.links.specs.Tables.{columnRow}
+use borrow.Author.Needs.{needs}
+use Rattle.links.proofs.add_column.Statement.{statement}
+use Rattle.links.proofs.add_column.Tie as tie
+
+abbrev Inv-loop : tie.InvT-loop
+Inv-loop out₀ left row n w u₀ out u = Made (columnRow out₀ left row w) n out₀ out u
+
+abbrev μ-loop : tie.MeasureT-loop
+μ-loop out₀ left row n w u₀ out u = n - u
+
+loop-holds : tie.Need-loop-holds Inv-loop μ-loop
+loop-holds c = made-start (c .before .before .pre .1 .0)
+
+mul-out : tie.Need-mul-out Inv-loop μ-loop
+mul-out c = search needs
+
+slice-read-out : tie.Need-slice-read-out Inv-loop μ-loop
+slice-read-out c = search needs
+
+mul-keep : tie.Need-mul-keep Inv-loop μ-loop
+mul-keep c = search needs
+
+shared-slice-read-keep : tie.Need-shared-slice-read-keep Inv-loop μ-loop
+shared-slice-read-keep c = search needs
+
+cast-keep : tie.Need-cast-keep Inv-loop μ-loop
+cast-keep c = search needs
+
+shr-keep : tie.Need-shr-keep Inv-loop μ-loop
+shr-keep c = search needs
+
+keep-requires : tie.Need-keep-requires Inv-loop μ-loop
+keep-requires c κs = search needs
+
+mul-out-2 : tie.Need-mul-out-2 Inv-loop μ-loop
+mul-out-2 c = search needs
+
+slice-write-out : tie.Need-slice-write-out Inv-loop μ-loop
+slice-write-out c = search needs
+
+add-u : tie.Need-add-u Inv-loop μ-loop
+add-u c = search needs
+
+loop-less : tie.Need-loop-less Inv-loop μ-loop
+loop-less c = search needs
+
+loop-again : tie.Need-loop-again Inv-loop μ-loop
+unfolding columnRow link bit
+loop-again c = made-turn (c .before .before .before .before .loop .inv) (c .before .before .before .loop-test .taken) (simp (c .keep .ensures, made-read (c .before .before .before .before .loop .inv) (c .before .before .before .loop-test .taken)))
+
+same-length : tie.Need-same-length Inv-loop μ-loop
+same-length c = search needs
+
+returns : tie.Need-returns Inv-loop μ-loop
+returns c = made-all (c .before .loop .inv) (c .loop-test .left)
+
+pub add-column-spec : {M : Type 1} → statement M
+add-column-spec =
+    tie.close
+    (tie.spec
+    Inv-loop
+    μ-loop
+    loop-holds
+    mul-out
+    slice-read-out
+    mul-keep
+    shared-slice-read-keep
+    cast-keep
+    shr-keep
+    keep-requires
+    mul-out-2
+    slice-write-out
+    add-u
+    loop-less
+    loop-again
+    same-length
+    returns)

@@ -1,0 +1,27 @@
+-- `links::close` meets its contract: Warshall's passes and own bits cleared are the closure, which is the definition by `closed-within`.
+-- Assumes nothing.
+use mathlib.Core.Path.{_≡_, _∙_, ap}
+use mathlib.Core.List.{List}
+use Prim.Native.Nat.{ℕ}
+use Rattle.lists.specs.Tab.{tab}
+use Rattle.links.specs.Warshall.{closed, clearRow}
+use Rattle.links.proofs.Closure.{closed-within}
+use borrow.Author.Needs.{needs}
+use Rattle.links.proofs.close.Statement.{statement}
+use Rattle.links.proofs.close.Tie as tie
+
+pass-over-all-requires : tie.Need-pass-over-all-requires
+pass-over-all-requires c κs = search needs
+
+clear-own-requires : tie.Need-clear-own-requires
+clear-own-requires c κs = search needs
+
+same-length : tie.Need-same-length
+same-length c = search needs
+
+returns : tie.Need-returns
+unfolding closed
+returns c = c .before .before .clear-own .ensures ∙ ap (λ (x : List ℕ). tab (clearRow x) (c .before .before .before .before .before .before .before .before .before .args .n)) (c .before .before .before .before .before .before .pass-over-all .ensures) ∙ closed-within _ _ (c .before .before .before .before .before .before .before .before .before .pre .0)
+
+pub close-spec : {M : Type 1} → statement M
+close-spec = tie.close (tie.spec pass-over-all-requires clear-own-requires same-length returns)

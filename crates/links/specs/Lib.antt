@@ -1,0 +1,5 @@
+-- Definitions that the contracts of `links` cite.
+pub mod Tables
+pub mod Warshall
+pub mod Composed
+pub mod Tells

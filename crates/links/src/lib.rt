@@ -1,0 +1,205 @@
+// Tables of links between n boards, 2 to 32: n words, bit v of word u for the pair u, v. Words are taken as they are found.
+ghost use mathlib.Core.Path.{_≡_};
+ghost use Prim.Native.Nat.{_≤_, _<_};
+ghost use lib.ListN.{length};
+ghost use lib.Dec.{eqb};
+ghost use mathlib.Core.Bool.{_||_};
+ghost use Rattle.model.specs.Recording.{bit};
+ghost use Rattle.lists.specs.Tab.{tab, padded};
+ghost use Rattle.links.specs.Tables.{without, columnRow, intersection, union, throughRow, compose, within, rowFull, full, connected, same};
+ghost use Rattle.links.specs.Warshall.{pass, passes, clearRow};
+use model::Board;
+
+// Whether bit b of x is set.
+pub fn linked(x: u32, b: Board) -> bool
+    requires { ⌜ b .0 < 32 ⌝ }
+    ensures { λ r. ⌜ r ≡ bit x (b .0) ⌝ }
+{
+    let v = b.0;
+    (x >> v) % 2 == 1
+}
+
+// x, with bit b clear.
+fn cleared(x: u32, b: Board) -> u32
+    requires { ⌜ b .0 < 32 ⌝ }
+    ensures { λ r. ⌜ r ≡ without x (b .0) ⌝ }
+{
+    let v = b.0;
+    x & !(1u32 << v)
+}
+
+// ---- compositions: each writes one table over the n words of out
+
+// The links open in both.
+pub fn intersect(out: &mut [u32], left: &[u32], right: &[u32], n: usize)
+    requires { ⌜ (n ≡ length (now out)) × ((n ≤ length (now left)) × (n ≤ length (now right))) ⌝ }
+    ensures { λ _. ⌜ now (out .exit) ≡ intersection n (now (left .entry)) (now (right .entry)) ⌝ }
+{
+    for u in 0..n {
+        out[u] = left[u] & right[u];
+    }
+}
+
+// The links open in either.
+pub fn unite(out: &mut [u32], left: &[u32], right: &[u32], n: usize)
+    requires { ⌜ (n ≡ length (now out)) × ((n ≤ length (now left)) × (n ≤ length (now right))) ⌝ }
+    ensures { λ _. ⌜ now (out .exit) ≡ union n (now (left .entry)) (now (right .entry)) ⌝ }
+{
+    for u in 0..n {
+        out[u] = left[u] | right[u];
+    }
+}
+
+// A column: `row`, what board b reaches in the later part, goes to every board that reaches b in the earlier one.
+fn add_column(out: &mut [u32], left: &[u32], row: u32, b: Board, n: usize)
+    requires { ⌜ (b .0 < 32) × ((n ≡ length (now out)) × (n ≤ length (now left))) ⌝ }
+    ensures { λ _. ⌜ now (out .exit) ≡ tab (columnRow (now (out .entry)) (now (left .entry)) row (b .0)) n ⌝ }
+{
+    let w = b.0;
+    for u in 0..n {
+        out[u] = out[u] | lists::keep(row, (left[u] >> w) % 2);
+    }
+}
+
+// The columns of all boards, one after the other.
+fn add_columns(out: &mut [u32], left: &[u32], right: &[u32], n: usize)
+    requires { ⌜ (n ≤ 32) × ((now out ≡ union n (now left) (now right)) × ((n ≡ length (now out)) × ((n ≤ length (now left)) × (n ≤ length (now right))))) ⌝ }
+    ensures { λ _. ⌜ now (out .exit) ≡ tab (throughRow (now (left .entry)) (now (right .entry)) n) n ⌝ }
+{
+    for w in 0..n {
+        add_column(out, left, right[w], Board(w), n);
+    }
+}
+
+// The bits of the boards' own links are cleared.
+fn clear_own(t: &mut [u32], n: usize)
+    requires { ⌜ (n ≤ 32) × (n ≡ length (now t)) ⌝ }
+    ensures { λ _. ⌜ now (t .exit) ≡ tab (clearRow (now (t .entry))) n ⌝ }
+{
+    for u in 0..n {
+        t[u] = cleared(t[u], Board(u));
+    }
+}
+
+// The union, and the pairs that are joined over some board.
+pub fn join(out: &mut [u32], left: &[u32], right: &[u32], n: usize)
+    requires { ⌜ (n ≤ 32) × ((n ≡ length (now out)) × ((n ≤ length (now left)) × (n ≤ length (now right)))) ⌝ }
+    ensures { λ _. ⌜ now (out .exit) ≡ compose n (now (left .entry)) (now (right .entry)) ⌝ }
+{
+    unite(out, left, right, n);
+    add_columns(out, left, right, n);
+    clear_own(out, n);
+}
+
+// ---- a pick's own table
+
+// Each row that links to b takes in b's row.
+fn pass_over(t: &mut [u32], b: Board, n: usize)
+    requires { ⌜ (n ≤ 32) × ((b .0 < n) × (n ≡ length (now t))) ⌝ }
+    ensures { λ _. ⌜ now (t .exit) ≡ pass n (now (t .entry)) (b .0) ⌝ }
+{
+    let w = b.0;
+    let row = t[w];
+    for u in 0..n {
+        t[u] = t[u] | lists::keep(row, (t[u] >> w) % 2);
+    }
+}
+
+fn pass_over_all(t: &mut [u32], n: usize)
+    requires { ⌜ (n ≤ 32) × (n ≡ length (now t)) ⌝ }
+    ensures { λ _. ⌜ now (t .exit) ≡ passes n (now (t .entry)) n ⌝ }
+{
+    for w in 0..n {
+        pass_over(t, Board(w), n);
+    }
+}
+
+// The pairs joined within one pick, by Warshall's method: 31 links are no limit for 32 boards.
+pub fn close(t: &mut [u32], n: usize)
+    requires { ⌜ (n ≤ 32) × (n ≡ length (now t)) ⌝ }
+    ensures { λ _. ⌜ now (t .exit) ≡ within n 31 (now (t .entry)) ⌝ }
+{
+    pass_over_all(t, n);
+    clear_own(t, n);
+}
+
+// The pairs joined within the pick of the words, over out.
+pub fn close_over(out: &mut [u32], words: &[u32], n: usize)
+    requires { ⌜ (n ≤ 32) × ((n ≡ length (now out)) × (n ≡ length (now words))) ⌝ }
+    ensures { λ _. ⌜ now (out .exit) ≡ within n 31 (now (words .entry)) ⌝ }
+{
+    lists::copy_over(out, words, n);
+    close(out, n);
+}
+
+// The pairs joined within the pick of the words, by value, and zeros up to 32.
+pub fn closed_words(words: &[u32], n: usize) -> [u32; 32]
+    requires { ⌜ (n ≤ 32) × (n ≡ length (now words)) ⌝ }
+    ensures { λ r. ⌜ r ≡ padded 32 (within n 31 (now (words .entry))) ⌝ }
+{
+    let mut t = lists::load(words, n);
+    close(&mut t[0..n], n);
+    t
+}
+
+// ---- tests
+
+// Whether u is v, or u's row has v's bit.
+fn pair_full(row: u32, u: Board, v: Board) -> bool
+    requires { ⌜ v .0 < 32 ⌝ }
+    ensures { λ r. ⌜ r ≡ (eqb (u .0) (v .0) || bit row (v .0)) ⌝ }
+{
+    if u.0 == v.0 {
+        return true;
+    }
+    linked(row, v)
+}
+
+fn row_full(t: &[u32], u: Board, n: usize) -> bool
+    requires { ⌜ (n ≤ 32) × (u .0 < length (now t)) ⌝ }
+    ensures { λ r. ⌜ r ≡ rowFull n (now (t .entry)) (u .0) ⌝ }
+{
+    let at = u.0;
+    let row = t[at];
+    for v in 0..n {
+        if !pair_full(row, u, Board(v)) {
+            return false;
+        }
+    }
+    true
+}
+
+// Whether every ordered pair of different boards is marked.
+pub fn is_full(t: &[u32], n: usize) -> bool
+    requires { ⌜ (n ≤ 32) × (n ≤ length (now t)) ⌝ }
+    ensures { λ r. ⌜ r ≡ full n (now (t .entry)) ⌝ }
+{
+    for u in 0..n {
+        if !row_full(t, Board(u), n) {
+            return false;
+        }
+    }
+    true
+}
+
+// Whether links of the table lead from every board to every other.
+pub fn is_connected(t: &[u32], n: usize) -> bool
+    requires { ⌜ (n ≤ 32) × (n ≡ length (now t)) ⌝ }
+    ensures { λ r. ⌜ r ≡ connected n (now (t .entry)) ⌝ }
+{
+    let c = closed_words(t, n);
+    is_full(&c[0..n], n)
+}
+
+// Whether the n words of the table are those of the footprint.
+pub fn is_same(footprint: &[u32], t: &[u32], n: usize) -> bool
+    requires { ⌜ (n ≤ length (now footprint)) × (n ≤ length (now t)) ⌝ }
+    ensures { λ r. ⌜ r ≡ same n (now (footprint .entry)) (now (t .entry)) ⌝ }
+{
+    for u in 0..n {
+        if t[u] != footprint[u] {
+            return false;
+        }
+    }
+    true
+}
