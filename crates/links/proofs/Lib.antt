@@ -3,3 +3,4 @@ pub mod Rows
 pub mod Bits
 pub mod Closure
 pub mod Padded
+pub mod Tells

@@ -4,6 +4,7 @@ use mathlib.Core.Logic.{_≢_, _⊎_, inl, inr, ⊎-elim}
 use mathlib.Core.Bool.{Bool, true, false, _||_, _&&_, not}
 use Prim.Native.Nat.{ℕ, zero, suc, _+_, _-_, _≤_, _<_}
 use native.Mathlib.Nat.{not-suc-le-zero, le-refl}
+use native.Mathlib.Decide.{decLt}
 use native.Mathlib.Omega.{arith}
 use lib.Dec.{T, eqb, eqb→eq, eqb-refl}
 
@@ -71,6 +72,13 @@ ne-eqb m n t e = go (eqb m n) t (subst (λ (k : ℕ). T (eqb m k)) e (eqb-refl m
 
 pub eq-or : (m n : ℕ) → (m ≡ n) ⊎ (m ≢ n)
 eq-or m n = ⊎-elim (λ t. inl (eqb→eq m n t)) (λ f. inr (λ e. f (subst (λ (k : ℕ). T (eqb m k)) e (eqb-refl m)))) (cases (eqb m n))
+
+pub le-or-lt : (m n : ℕ) → (m ≤ n) ⊎ (n < m)
+le-or-lt m n = go (decLt n m)
+  where
+    go : Dec (n < m) → (m ≤ n) ⊎ (n < m)
+    go (yes h) = inr h
+    go (no h) = inl (omega arith)
 
 pub eq-refl : {m n : ℕ} → m ≡ n → T (eqb m n)
 eq-refl {m} e = subst (λ (k : ℕ). T (eqb m k)) e (eqb-refl m)
