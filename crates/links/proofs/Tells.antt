@@ -55,8 +55,10 @@ common-join n r i k j s t p q a b = record {
 pub footprint-own : (n : ℕ) (r : List (List ℕ)) → Recording n r → (i : ℕ) → 1 ≤ i → i ≤ length r → Marks n (SomeLink r i i) (pickAt r i)
 footprint-own n r k i a b = record {
   clean = pick-at n r k i a b;
-  marks = λ u v hu hv. (λ m. (i, le-refl i, le-refl i, m),
-      λ f. let x : i ≤ f .0 = f .1 in let y : f .0 ≤ i = f .2 in let e : f .0 ≡ i = omega arith in subst (λ (z : ℕ). Open r z u v) e (f .3));
+  marks = λ u v hu hv. (
+    λ m. (i, le-refl i, le-refl i, m),
+    λ f. let x : i ≤ f .0 = f .1 in let y : f .0 ≤ i = f .2 in let e : f .0 ≡ i = omega arith in subst (λ (z : ℕ). Open r z u v) e (f .3),
+  );
 }
 
 pub footprint-join : (n : ℕ) (r : List (List ℕ)) (i k j : ℕ) (s t : List ℕ) → i ≤ k → k < j
@@ -120,15 +122,21 @@ reach-join n L r n32 rec i k j s t hi hk hj hM a b = record {
   marks = λ u v hu hv.
       let e = compose-link n s t u v n32 hu (lt-of-lt-of-le hv n32) in
       let c = journey-split r L i k j u v hi hk hj hM in (
-        λ m. (e .0 m .0, ⊎-elim (λ (l : T (link s u v)). journey-wider (le-refl i) (omega arith) (a .marks u v hu hv .0 l .1))
-            (λ (l : T (link t u v) ⊎ ((w : ℕ) × (w < n) × T (link s u w) × T (link t w v))).
-            ⊎-elim (λ (x : T (link t u v)). journey-wider (omega arith) (le-refl j) (b .marks u v hu hv .0 x .1))
-            (λ (x : (w : ℕ) × (w < n) × T (link s u w) × T (link t w v)). c .1 (x .0, a .marks u (x .0) hu (x .1) .0 (x .2) .1, b .marks (x .0) v (x .1) hv .0 (x .3) .1)) l) (e .0 m .1)),
+        λ m. (
+          e .0 m .0,
+          ⊎-elim (λ (l : T (link s u v)). journey-wider (le-refl i) (omega arith) (a .marks u v hu hv .0 l .1))
+              (λ (l : T (link t u v) ⊎ ((w : ℕ) × (w < n) × T (link s u w) × T (link t w v))).
+              ⊎-elim (λ (x : T (link t u v)). journey-wider (omega arith) (le-refl j) (b .marks u v hu hv .0 x .1))
+              (λ (x : (w : ℕ) × (w < n) × T (link s u w) × T (link t w v)). c .1 (x .0, a .marks u (x .0) hu (x .1) .0 (x .2) .1, b .marks (x .0) v (x .1) hv .0 (x .3) .1)) l) (e .0 m .1),
+        ),
         λ q. let w = c .0 (q .1) in
             let hw = journey-to n L r rec i k u (w .0) hi (omega arith) (omega arith) hu (w .1) in
-            e .1 (q .0, ⊎-elim (λ (x : u ≡ w .0). inr (inl (b .marks u v hu hv .1 (q .0, subst (λ (y : ℕ). Journey r L (suc k) j y v) (sym x) (w .2)))))
-            (λ (x : u ≢ w .0). ⊎-elim (λ (y : w .0 ≡ v). inl (a .marks u v hu hv .1 (q .0, subst (λ (z : ℕ). Journey r L i k u z) y (w .1))))
-            (λ (y : w .0 ≢ v). inr (inr (w .0, hw, a .marks u (w .0) hu hw .1 (x, w .1), b .marks (w .0) v hw hv .1 (y, w .2)))) (eq-or (w .0) v)) (eq-or u (w .0))),
+            e .1 (
+              q .0,
+              ⊎-elim (λ (x : u ≡ w .0). inr (inl (b .marks u v hu hv .1 (q .0, subst (λ (y : ℕ). Journey r L (suc k) j y v) (sym x) (w .2)))))
+                  (λ (x : u ≢ w .0). ⊎-elim (λ (y : w .0 ≡ v). inl (a .marks u v hu hv .1 (q .0, subst (λ (z : ℕ). Journey r L i k u z) y (w .1))))
+                  (λ (y : w .0 ≢ v). inr (inr (w .0, hw, a .marks u (w .0) hu hw .1 (x, w .1), b .marks (w .0) v hw hv .1 (y, w .2)))) (eq-or (w .0) v)) (eq-or u (w .0)),
+            ),
       );
 }
 

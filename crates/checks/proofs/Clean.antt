@@ -1,0 +1,52 @@
+-- The checks say what the meaning says. Assumes nothing.
+use mathlib.Core.Path.{_≡_, sym, ap, _∙_, subst}
+use mathlib.Core.Logic.{_↔_, ⊎-elim}
+use mathlib.Core.Bool.{Bool, _||_, _&&_, not}
+use mathlib.Core.List.{List}
+use Prim.Native.Nat.{ℕ, _-_, _^_, _≤_, _<_}
+use native.Mathlib.Decide.{decLt}
+use native.Mathlib.Omega.{arith}
+use lib.Bits.{bitOr, or-lt}
+use lib.Dec.{T, eqb, eqb→eq, leb, leb→le, le→leb}
+use lib.ListN.{length, getD, List·getD-eq-default}
+use lib.Pow.{pow-pos}
+use Rattle.model.specs.Recording.{bit, link, Words, Clean}
+use Rattle.model.proofs.Logic.{tr, bool-ext, or-l, or-r, or-cases, and-both, and-l, and-r, not-in, not-out, eq-refl}
+use Rattle.model.proofs.Bits.{bit-or, bits-ext}
+use Rattle.model.proofs.Links.{link-from}
+use Rattle.lists.proofs.Tab.{every-in, every-out}
+use Rattle.checks.specs.Checks.{allowed, cleanRow, clean, listedRow, listed}
+
+-- n words are let through exactly when they have no forbidden bit
+pub clean-is : (n : ℕ) (w : List ℕ) → length w ≡ n → T (clean n w) ↔ Clean n w
+unfolding clean cleanRow allowed
+clean-is n w e = (
+  λ t. record { words = record { size = e; small = λ u. small t u (decLt u n) }; loopless = λ u m. own t u m (decLt u n) },
+  λ k. every-in (cleanRow n w) n (λ u h. and-both (leb (getD w u 0) (2 ^ n - 1)) (not (link w u u))
+      (le→leb (getD w u 0) (2 ^ n - 1) (omega (arith, k .words .small u))) (not-in (link w u u) (k .loopless u))),
+)
+  where
+    small : T (clean n w) → (u : ℕ) → Dec (u < n) → getD w u 0 < 2 ^ n
+    small t u (yes h) =
+        let l = leb→le (getD w u 0) (2 ^ n - 1) (and-l (leb (getD w u 0) (2 ^ n - 1)) (not (link w u u)) (every-out (cleanRow n w) n t u h)) in
+        omega (arith, pow-pos n)
+    small t u (no h) = let k : length w ≤ u = omega arith in subst (λ (x : ℕ). x < 2 ^ n) (sym (List·getD-eq-default w 0 k)) (pow-pos n)
+
+    own : T (clean n w) → (u : ℕ) → T (link w u u) → Dec (u < n) → ⊥
+    own t u m (yes h) = not-out (link w u u) (and-r (leb (getD w u 0) (2 ^ n - 1)) (not (link w u u)) (every-out (cleanRow n w) n t u h)) m
+    own t u m (no h) = h (link-from n w (record { size = e; small = λ x. small t x (decLt x n) }) u u m)
+
+-- a pick without a forbidden bit is let through by the footprint exactly when the footprint has each of its links
+pub listed-is : (n : ℕ) (footprint w : List ℕ) → Clean n footprint → Clean n w → T (listed n footprint w) ↔ ((u v : ℕ) → T (link w u v) → T (link footprint u v))
+unfolding listed listedRow link
+listed-is n l w kl kw = (
+  λ t u v m. let e = eqb→eq (bitOr (getD w u 0) (getD l u 0)) (getD l u 0) (every-out (listedRow l w) n t u (link-from n w (kw .words) u v m)) in
+      tr (ap (λ (x : ℕ). bit x v) e) (tr (sym (bit-or (getD w u 0) (getD l u 0) v)) (or-l (bit (getD w u 0) v) (bit (getD l u 0) v) m)),
+  λ f. every-in (listedRow l w) n (λ u h. eq-refl (row f u)),
+)
+  where
+    row : ((u v : ℕ) → T (link w u v) → T (link l u v)) → (u : ℕ) → bitOr (getD w u 0) (getD l u 0) ≡ getD l u 0
+    row f u =
+        bits-ext n (bitOr (getD w u 0) (getD l u 0)) (getD l u 0) (or-lt n (getD w u 0) (getD l u 0) (kw .words .small u) (kl .words .small u)) (kl .words .small u)
+        (λ v h. bit-or (getD w u 0) (getD l u 0) v ∙ bool-ext (bit (getD w u 0) v || bit (getD l u 0) v) (bit (getD l u 0) v)
+        (λ m. ⊎-elim (f u v) (λ (x : T (bit (getD l u 0) v)). x) (or-cases (bit (getD w u 0) v) (bit (getD l u 0) v) m)) (or-r (bit (getD w u 0) v) (bit (getD l u 0) v)))

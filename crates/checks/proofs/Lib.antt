@@ -1,0 +1,3 @@
+-- The table rule of constants, and what the checks say.
+pub mod Table
+pub mod Clean

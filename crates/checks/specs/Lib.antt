@@ -1,0 +1,2 @@
+-- Definitions that the contracts of `checks` cite.
+pub mod Checks
