@@ -124,7 +124,7 @@ union-link n s t u v h = link-tab (eitherRow s t) n u v h ∙ bit-or (getD s u 0
 -- ---- clean tables stay clean
 
 -- n words below 2 ^ n
-tab-words : (n : ℕ) (f : ℕ → ℕ) → ((u : ℕ) → u < n → f u < 2 ^ n) → Words n (tab f n)
+pub tab-words : (n : ℕ) (f : ℕ → ℕ) → ((u : ℕ) → u < n → f u < 2 ^ n) → Words n (tab f n)
 tab-words n f h = record { size = length-tab f n; small = λ u. go u (decLt u n) }
   where
     go : (u : ℕ) → Dec (u < n) → getD (tab f n) u 0 < 2 ^ n

@@ -49,6 +49,11 @@ trip-split L (p ∷ ps) y u v a =
     let b = trip-split L ps y (a .0) v (a .2) in
     (b .0, (a .0, a .1, b .1), b .2)
 
+-- a journey may stay where it is
+pub trip-stay : (L : Limit) (r : List (List ℕ)) (u : ℕ) → Trip L r u u
+trip-stay L [] u = refl
+trip-stay L (p ∷ ps) u = (u, (0, within-none L, stop), trip-stay L ps u)
+
 -- both ends of a walk are boards below n
 pub walk-from : {n : ℕ} {p : List ℕ} {c u v : ℕ} → Words n p → v < n → Walk p c u v → u < n
 walk-from w h stop = h

@@ -1,0 +1,99 @@
+-- The four measures: each kit's tables tell the truth of every window, and its test holds exactly when the window passes. `hops` is the most
+-- links in one pick, `turn` the turn-round; both stay open. Assumes nothing.
+use mathlib.Core.Path.{_≡_, sym}
+use mathlib.Core.Logic.{_↔_}
+use mathlib.Core.List.{List}
+use Prim.Native.Nat.{ℕ, suc, _≤_, _<_}
+use native.Mathlib.Nat.{le-refl}
+use native.Mathlib.Omega.{arith}
+use lib.Dec.{T}
+use lib.ListN.{length}
+use Rattle.model.specs.Recording.{Clean, Recording, pickAt}
+use Rattle.model.specs.Journey.{atMost}
+use Rattle.model.specs.Measures.{CommonLink, PassesCommon, SomeLink, PassesFootprint, PassesReach, PassesRoundTrip}
+use Rattle.model.proofs.Links.{link-from, link-to}
+use Rattle.model.proofs.Windows.{pick-at}
+use Rattle.links.specs.Tables.{compose, within}
+use Rattle.links.specs.Tells.{Marks}
+use Rattle.links.proofs.Tells.{marks-once, common-own, common-join, footprint-own, footprint-join, Reaches, reach-own, reach-join, full-test, connected-test, same-test, Below}
+use Rattle.times.specs.Tells.{TellsTimes}
+use Rattle.times.proofs.Times.{own-tells, compose-tells, tells-once, tells-test}
+use Rattle.measures.specs.Kit.{Kit, kitWith, widthOf, ownOf, joinOf, passOf}
+use Rattle.law.specs.Faithful.{Faithful}
+
+-- the test of K against the footprint tells whether a window passes
+abbrev pub Tested : Kit → List ℕ → List (List ℕ) → (ℕ → ℕ → List ℕ → Type 0) → (ℕ → ℕ → Type 0) → Type 0
+Tested K footprint r Tells P = (i j : ℕ) (t : List ℕ) → 1 ≤ i → i ≤ j → j ≤ length r → Tells i j t → T (K .pass footprint t) ↔ P i j
+
+module _ (hops turn n : ℕ) (n32 : n ≤ 32) (r : List (List ℕ)) (rec : Recording n r) where
+  -- ---- measure 1: the table marks the links open at every pick
+
+  pub common-faithful : Faithful (kitWith hops turn 1 n .join) (kitWith hops turn 1 n .own) r (λ i j. Marks n (CommonLink r i j))
+  unfolding ownOf joinOf
+  common-faithful = record {
+    own-tells = common-own n r rec;
+    join-tells = λ i k j s t a b c d. common-join n r i k j s t b c;
+    tells-once = λ i j s t a. marks-once;
+  }
+
+  common-below : (i j : ℕ) → 1 ≤ i → i ≤ j → j ≤ length r → Below n (CommonLink r i j)
+  common-below i j a b c u v f =
+      let k = pick-at n r rec i a (omega arith) .words in
+      let m = f i (le-refl i) b in
+      (link-from n (pickAt r i) k u v m, link-to n (pickAt r i) k u v m)
+
+  pub common-tested : (footprint : List ℕ) → Tested (kitWith hops turn 1 n) footprint r (λ i j. Marks n (CommonLink r i j)) (PassesCommon r n)
+  unfolding passOf
+  common-tested footprint i j t a b c m = connected-test n (CommonLink r i j) t n32 (common-below i j a b c) m
+
+  -- ---- measure 2: the table marks the links open at some pick
+
+  pub footprint-faithful : Faithful (kitWith hops turn 2 n .join) (kitWith hops turn 2 n .own) r (λ i j. Marks n (SomeLink r i j))
+  unfolding ownOf joinOf
+  footprint-faithful = record {
+    own-tells = footprint-own n r rec;
+    join-tells = λ i k j s t a b c d. footprint-join n r i k j s t b c;
+    tells-once = λ i j s t a. marks-once;
+  }
+
+  some-below : (i j : ℕ) → 1 ≤ i → i ≤ j → j ≤ length r → Below n (SomeLink r i j)
+  some-below i j a b c u v f =
+      let x : i ≤ f .0 = f .1 in
+      let y : f .0 ≤ j = f .2 in
+      let k = pick-at n r rec (f .0) (omega arith) (omega arith) .words in
+      (link-from n (pickAt r (f .0)) k u v (f .3), link-to n (pickAt r (f .0)) k u v (f .3))
+
+  pub footprint-tested : (footprint : List ℕ) → Clean n footprint → Tested (kitWith hops turn 2 n) footprint r (λ i j. Marks n (SomeLink r i j)) (PassesFootprint r footprint)
+  unfolding passOf
+  footprint-tested footprint k i j t a b c m = same-test n (SomeLink r i j) footprint t k (some-below i j a b c) m
+
+  -- ---- measure 3: the table marks exactly the pairs joined by a journey
+
+  pub reach-faithful : Faithful (compose n) (λ i. within n hops) r (λ i j. Marks n (Reaches r (atMost hops) i j))
+  reach-faithful = record {
+    own-tells = reach-own n hops r n32 rec;
+    join-tells = λ i k j s t. reach-join n (atMost hops) r n32 rec i k j s t;
+    tells-once = λ i j s t a. marks-once;
+  }
+
+  pub reach-kit : Faithful (kitWith hops turn 3 n .join) (kitWith hops turn 3 n .own) r (λ i j. Marks n (Reaches r (atMost hops) i j))
+  unfolding ownOf joinOf
+  reach-kit = reach-faithful
+
+  pub reach-tested : (footprint : List ℕ) → Tested (kitWith hops turn 3 n) footprint r (λ i j. Marks n (Reaches r (atMost hops) i j)) (PassesReach r n (atMost hops))
+  unfolding passOf
+  reach-tested footprint i j t a b c m = full-test n _ t (m .marks)
+
+  -- ---- measure 4: arrivals are earliest and departures latest
+
+  pub round-faithful : Faithful (kitWith hops turn 4 n .join) (kitWith hops turn 4 n .own) r (TellsTimes r n (atMost hops))
+  unfolding ownOf joinOf
+  round-faithful = record {
+    own-tells = λ i a b. own-tells rec a b (within n hops (pickAt r i)) (reach-own n hops r n32 rec i a b .marks);
+    join-tells = λ i k j s t a b c d. compose-tells rec a b c d;
+    tells-once = λ i j s t a. tells-once a;
+  }
+
+  pub round-tested : (footprint : List ℕ) → Tested (kitWith hops turn 4 n) footprint r (TellsTimes r n (atMost hops)) (PassesRoundTrip r n (atMost hops) turn)
+  unfolding passOf
+  round-tested footprint i j t a b c m = tells-test a b c m

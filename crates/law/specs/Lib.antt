@@ -1,0 +1,5 @@
+-- Theorems over the definitions that the contracts cite.
+pub mod Faithful
+pub mod Kits
+pub mod Stars
+pub mod Condition3

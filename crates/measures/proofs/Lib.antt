@@ -1,0 +1,2 @@
+-- The words of a table, as a test of the measure says them.
+pub mod Words

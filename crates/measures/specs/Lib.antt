@@ -1,0 +1,2 @@
+-- Definitions that the contracts of `measures` cite.
+pub mod Kit

@@ -1,0 +1,79 @@
+// What the walk needs of each measure: the words of a table, a pick's own table, the composition of two tables, the test of one.
+// Only these functions go by the measure's number, 1 to 4.
+ghost use mathlib.Core.Path.{_≡_};
+ghost use Prim.Native.Nat.{_+_, _*_, _^_, _≤_, _<_};
+ghost use lib.ListN.{length};
+ghost use Rattle.links.specs.Tables.{within};
+ghost use Rattle.times.specs.Times.{ownTimes};
+ghost use Rattle.measures.specs.Kit.{widthOf, ownOf, joinOf, passOf};
+use model::Pick;
+
+// E: the words of a table.
+pub fn width(measure: usize, n: usize) -> usize
+    requires { ⌜ n ≤ 32 ⌝ }
+    ensures { λ r. ⌜ r ≡ widthOf measure n ⌝ }
+{
+    if measure == 4 { n * n + n * n } else { n }
+}
+
+// Writes over out the composition of left, the earlier part, and right, the later part.
+pub fn compose(out: &mut [u32], left: &[u32], right: &[u32], measure: usize, n: usize)
+    requires { ⌜ (n ≤ 32) × ((widthOf measure n ≡ length (now out)) × ((widthOf measure n ≤ length (now left)) × (widthOf measure n ≤ length (now right)))) ⌝ }
+    ensures { λ _. ⌜ now (out .exit) ≡ joinOf measure n (now (left .entry)) (now (right .entry)) ⌝ }
+{
+    if measure == 4 {
+        times::compose(out, left, right, n);
+        return;
+    }
+    if measure == 3 {
+        links::join(out, left, right, n);
+        return;
+    }
+    if measure == 2 {
+        links::unite(out, left, right, n);
+        return;
+    }
+    links::intersect(out, left, right, n);
+}
+
+// The own table of measure 4: the pairs joined within the pick are worked out in a local table of links.
+fn own_times(out: &mut [u32], words: &[u32], n: usize, pick: Pick)
+    requires { ⌜ (n ≤ 32) × ((pick .0 < 2 ^ 32) × ((n * n + n * n ≡ length (now out)) × (n ≡ length (now words)))) ⌝ }
+    ensures { λ _. ⌜ now (out .exit) ≡ ownTimes n (pick .0) (within n 31 (now (words .entry))) ⌝ }
+{
+    let joined = links::closed_words(words, n);
+    times::own(out, &joined[0..n], n, pick);
+}
+
+// Writes over out the own table of a pick.
+pub fn own(out: &mut [u32], words: &[u32], measure: usize, n: usize, pick: Pick)
+    requires { ⌜ (n ≤ 32) × ((pick .0 < 2 ^ 32) × ((widthOf measure n ≡ length (now out)) × (n ≡ length (now words)))) ⌝ }
+    ensures { λ _. ⌜ now (out .exit) ≡ ownOf 31 measure n (pick .0) (now (words .entry)) ⌝ }
+{
+    if measure == 4 {
+        own_times(out, words, n, pick);
+        return;
+    }
+    if measure == 3 {
+        links::close_over(out, words, n);
+        return;
+    }
+    lists::copy_over(out, words, n);
+}
+
+// Whether a table passes; the footprint is that of measure 2.
+pub fn passes(footprint: &[u32], t: &[u32], measure: usize, n: usize) -> bool
+    requires { ⌜ (n ≤ 32) × ((n ≤ length (now footprint)) × (widthOf measure n ≡ length (now t))) ⌝ }
+    ensures { λ r. ⌜ r ≡ passOf 0 measure n (now (footprint .entry)) (now (t .entry)) ⌝ }
+{
+    if measure == 4 {
+        return times::in_time(t, n);
+    }
+    if measure == 3 {
+        return links::is_full(t, n);
+    }
+    if measure == 2 {
+        return links::is_same(footprint, t, n);
+    }
+    links::is_connected(t, n)
+}

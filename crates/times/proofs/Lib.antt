@@ -1,0 +1,4 @@
+-- Laws of tables of times.
+pub mod Cells
+pub mod Rows
+pub mod Times

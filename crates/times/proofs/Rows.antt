@@ -1,0 +1,165 @@
+-- Laws of tables in rows, the invariant of the loops that write them row by row, and what the loops over a row make. Assumes nothing.
+use mathlib.Core.Path.{_≡_, refl, ap, _∙_, sym}
+use mathlib.Core.Bool.{Bool, true, false}
+use mathlib.Core.List.{List, _++_, append-nil, append-assoc}
+use Prim.Native.Nat.{ℕ, zero, suc, _+_, _*_, _-_, _≤_, _<_, zero-le}
+use native.Mathlib.Numerals.{add-one}
+use native.Mathlib.Nat.{add-zero, sub-zero, zero-mul, suc-mul, mul-le-mul-right, le-of-eq, add-sub-cancel-left}
+use native.Mathlib.Omega.{arith}
+use lib.Dec.{eqb, leb, eqb·suc-zero, leb·suc-zero}
+use lib.ListN.{length, take, drop, set, getD, length-append, length-drop, length-set, drop-of-length-le}
+use lib.Seq.{take-at, drop-at, drop-drop, take-all, length-take-le, getD-take, getD-drop, getD-set-same, getD-set-other, ext-getD}
+use borrow.Author.Tests.{eqb-true, eqb-false, ne-eqb}
+use Rattle.lists.specs.Tab.{tab}
+use Rattle.lists.proofs.Tab.{length-tab, getD-tab, tab-ext}
+use Rattle.times.specs.Times.{rows, sooner, later, after, apart, choose, arr, inTime}
+use Rattle.times.specs.Steps.{each, soonerBy, laterBy}
+
+-- ---- places
+
+-- a word's place is within a half
+pub cell-lt : (n : ℕ) {a b : ℕ} → a < n → b < n → a * n + b < n * n
+cell-lt n {a} {b} h l = omega (arith, suc-mul a n, mul-le-mul-right n h)
+
+-- a row is within a half
+pub row-le : (n : ℕ) {u : ℕ} → u < n → u * n + n ≤ n * n
+row-le n {u} h = omega (arith, suc-mul u n, mul-le-mul-right n h)
+
+-- a part from `at` on, of n words
+pub part-length : (n at : ℕ) (xs : List ℕ) → at + n ≤ length xs → n ≡ length (take (at + n - at) (drop at xs))
+part-length n at xs h = rw add-sub-cancel-left (sym (length-take-le n (drop at xs) (omega (arith, length-drop at xs))))
+
+-- a part from a start to the end
+pub from-start : (m : ℕ) (xs : List ℕ) → take (length xs - m) (drop m xs) ≡ drop m xs
+from-start m xs = take-all (length xs - m) (drop m xs) (le-of-eq (length-drop m xs))
+
+-- ---- rows
+
+pub length-rows : (n : ℕ) (f : ℕ → ℕ → ℕ) (k : ℕ) → length (rows n f k) ≡ k * n
+unfolding rows
+length-rows n f zero = sym (zero-mul n)
+length-rows n f (suc k) =
+    let e = length-rows n f k in
+    let l = length-tab (f k) n in
+    length-append (rows n f k) (tab (f k) n) ∙ omega (arith, suc-mul k n)
+
+-- The invariant of a loop that writes n rows of n words: t is f's rows below u, and t₀'s words from there on.
+-- A proof's `Inv-loop` is a `Rowed`; `rowed-start`, `rowed-turn` and `rowed-all` answer its needs.
+pub record Rowed (n : ℕ) (f : ℕ → ℕ → ℕ) (t₀ t : List ℕ) (u : ℕ) : Type 0 where
+  pub size : n * n ≡ length t₀
+  pub low : u ≤ n
+  pub long : length t ≡ n * n
+  pub made : t ≡ rows n f u ++ drop (u * n) t₀
+
+pub rowed-start : {n : ℕ} {f : ℕ → ℕ → ℕ} {t₀ : List ℕ} → n * n ≡ length t₀ → Rowed n f t₀ t₀ 0
+unfolding rows
+rowed-start {n} {f} {t₀} e = record { size = e; low = zero-le; long = sym e; made = rw zero-mul }
+
+module _ {n : ℕ} {f : ℕ → ℕ → ℕ} {t₀ t : List ℕ} {u : ℕ} (m : Rowed n f t₀ t u) where
+  -- a turn: row u, lent and written
+  pub rowed-turn : {row : List ℕ} → u < n → row ≡ tab (f u) n
+      → Rowed n f t₀ (take (u * n) t ++ (row ++ drop (u * n + n - u * n) (drop (u * n) t))) (u + 1)
+  unfolding rows
+  rowed-turn {row} h q =
+      let l = length-rows n f u in
+      let front : take (u * n) t ≡ rows n f u = rw (m .made) (take-at (rows n f u) _ (u * n) l) in
+      let back : drop (u * n) t ≡ drop (u * n) t₀ = rw (m .made) (drop-at (rows n f u) _ (u * n) l) in
+      let made : take (u * n) t ++ (row ++ drop (u * n + n - u * n) (drop (u * n) t)) ≡ rows n f (suc u) ++ drop (suc u * n) t₀ =
+      rw (add-sub-cancel-left, front, back, q, drop-drop, suc-mul) (sym (append-assoc (rows n f u) (tab (f u) n) _)) in
+      record {
+        size = m .size;
+        low = omega arith;
+        long =
+            ap length made ∙ length-append (rows n f (suc u)) (drop (suc u * n) t₀)
+            ∙ omega (arith, length-rows n f (suc u), length-drop (suc u * n) t₀, m .size, mul-le-mul-right n h);
+        made = rw add-one made;
+      }
+
+  -- the loop's end
+  pub rowed-all : n ≤ u → t ≡ rows n f n
+  rowed-all h =
+      let q : u ≡ n = omega (arith, m .low) in
+      let r : length t₀ ≤ n * n = omega (arith, m .size) in
+      m .made ∙ rw (q, drop-of-length-le t₀ {i = n * n} r) (append-nil (rows n f n))
+
+-- two halves of rows, lent and written one after the other over all of xs
+pub halves : (n : ℕ) (f g : ℕ → ℕ → ℕ) (a b xs : List ℕ) → n * n + n * n ≡ length xs → a ≡ rows n f n → b ≡ rows n g n
+    → take (n * n) (a ++ drop (n * n - 0) xs) ++ (b ++ drop (n * n + n * n - n * n) (drop (n * n) (a ++ drop (n * n - 0) xs))) ≡ rows n f n ++ rows n g n
+halves n f g a b xs e p q =
+    let m = n * n in
+    let l = length-rows n f n in
+    let r : length (drop m xs) ≤ m = omega (arith, length-drop m xs) in
+    rw (sub-zero, add-sub-cancel-left, p, q, take-at (rows n f n) _ m l, drop-at (rows n f n) _ m l, drop-of-length-le (drop m xs) {i = m} r, append-nil)
+
+-- ---- one row
+
+-- a row that a loop leaves as it is
+pub row-same : (f : ℕ → ℕ) (n : ℕ) (xs : List ℕ) → n ≡ length xs → ((v : ℕ) → getD xs v 0 ≡ f v) → xs ≡ tab f n
+row-same f n xs e h =
+    ext-getD 0 xs (tab f n) (sym e ∙ sym (length-tab f n)) (λ v l. h v ∙ sym (getD-tab f n v (omega (arith, e))))
+
+-- op of the rows at `at`, as they are lent
+pub row-first : (op : ℕ → ℕ → ℕ) (g : ℕ → ℕ) (n at : ℕ) (s t : List ℕ)
+    → ((v : ℕ) → op (getD s (at + v) 0) (getD t (at + v) 0) ≡ g v)
+    → tab (each op (take (at + n - at) (drop at s)) (take (at + n - at) (drop at t))) n ≡ tab g n
+row-first op g n at s t h =
+    rw add-sub-cancel-left
+    (tab-ext (each op (take n (drop at s)) (take n (drop at t))) g n
+    (λ v l. simp (getD-take n (drop at s) v 0 l, getD-take n (drop at t) v 0 l, getD-drop) (h v)))
+
+-- op of a row made and the row at `at`
+pub row-next : (op : ℕ → ℕ → ℕ) (f g : ℕ → ℕ) (n at : ℕ) (xs t : List ℕ)
+    → xs ≡ tab f n
+    → ((v : ℕ) → op (f v) (getD t (at + v) 0) ≡ g v)
+    → tab (each op xs (take (at + n - at) (drop at t))) n ≡ tab g n
+row-next op f g n at xs t e h =
+    rw (add-sub-cancel-left, e)
+    (tab-ext (each op (tab f n) (take n (drop at t))) g n
+    (λ v l. simp (getD-tab f n v l, getD-take n (drop at t) v 0 l, getD-drop) (h v)))
+
+-- a word of a row whose own entry was set to 0
+row-word : (f : ℕ → ℕ) (n u v : ℕ) (b : Bool) → eqb u v ≡ b → u < n → v < n → getD (set (tab f n) u 0) v 0 ≡ choose b 0 (f v)
+row-word f n u v true e h l = rw (sym (eqb-true u v e)) (getD-set-same (tab f n) u 0 0 (omega (arith, length-tab f n)))
+row-word f n u v false e h l = getD-set-other (tab f n) u v 0 0 (λ q. eqb-false u v e (sym q)) ∙ getD-tab f n v l
+
+-- the own entry
+pub row-last : (f g : ℕ → ℕ) (n u : ℕ) (xs : List ℕ) → xs ≡ tab f n → u < n → ((v : ℕ) → apart u v (f v) ≡ g v) → set xs u 0 ≡ tab g n
+unfolding apart
+row-last f g n u xs e h q =
+    let k : length (set (tab f n) u 0) ≡ n = length-set (tab f n) u 0 ∙ length-tab f n in
+    rw e
+    (ext-getD 0 (set (tab f n) u 0) (tab g n) (k ∙ sym (length-tab g n))
+    (λ v l. row-word f n u v (eqb u v) refl h (omega arith) ∙ q v ∙ sym (getD-tab g n v (omega arith))))
+
+-- ---- times, where 0 is none
+
+pub sooner-none : (x y : ℕ) → x ≡ soonerBy 0 x y
+unfolding sooner after
+sooner-none zero y = refl
+sooner-none (suc x) y = rw eqb·suc-zero
+
+after-none : (y : ℕ) → after y 0 ≡ 0
+unfolding after
+after-none zero = refl
+after-none (suc y) = rw eqb·suc-zero
+
+later-zero : (x : ℕ) → later x 0 ≡ x
+unfolding later
+later-zero zero = refl
+later-zero (suc x) = rw leb·suc-zero
+
+pub later-none : (x y : ℕ) → x ≡ laterBy 0 x y
+later-none x y = rw (after-none, later-zero)
+
+-- a board that is reached
+pub after-some : {d : ℕ} → (d ≡ 0 → ⊥) → (y : ℕ) → after d y ≡ y
+unfolding after
+after-some {d} h y = simp (ne-eqb d 0 h)
+
+-- ---- test
+
+-- the last question of a pair, where the others are answered
+pub in-time-last : (n : ℕ) (t : List ℕ) (u v : ℕ) → eqb u v ≡ false → eqb (arr n t u v) 0 ≡ false → eqb (arr n t v u) 0 ≡ false
+    → leb (getD t (u * n + v) 0) (getD t (n * n + (v * n + u)) 0) ≡ inTime n 0 t u v
+unfolding inTime
+in-time-last n t u v a b c = rw (a, b, c, add-zero, getD-drop)

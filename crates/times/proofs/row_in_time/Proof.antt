@@ -1,0 +1,59 @@
+-- `times::row_in_time` meets its contract. The invariant: the pairs below `v` are in time.
+-- Assumes nothing.
+use mathlib.Core.Bool.{true}
+use mathlib.Core.Path.{_≡_, sym, _∙_}
+use Prim.Native.Nat.{_-_, _≤_}
+use native.Mathlib.Omega.{arith}
+use borrow.Author.Tests.{not-true, not-false}
+use Rattle.lists.specs.Tab.{every}
+use Rattle.lists.proofs.Tab.{every-none, every-next, every-stop}
+use Rattle.times.specs.Times.{inTime, rowInTime}
+use borrow.Author.Needs.{needs}
+use Rattle.times.proofs.row_in_time.Statement.{statement}
+use Rattle.times.proofs.row_in_time.Tie as tie
+
+abbrev Inv-loop : tie.InvT-loop
+Inv-loop t n u v₀ v = (v ≤ n) × (every (inTime n 0 t u) v ≡ true)
+
+abbrev μ-loop : tie.MeasureT-loop
+μ-loop t n u v₀ v = n - v
+
+loop-holds : tie.Need-loop-holds Inv-loop μ-loop
+loop-holds c = (search needs, every-none _)
+
+pair-in-time-requires : tie.Need-pair-in-time-requires Inv-loop μ-loop
+pair-in-time-requires c κs = search needs
+
+returns : tie.Need-returns Inv-loop μ-loop
+unfolding rowInTime
+returns c = sym (every-stop _ _ _ (c .before .before .loop-test .taken) (sym (c .before .pair-in-time .ensures) ∙ not-true _ (c .if1 .taken)))
+
+add-v : tie.Need-add-v Inv-loop μ-loop
+add-v c = search needs
+
+loop-less : tie.Need-loop-less Inv-loop μ-loop
+loop-less c = search needs
+
+loop-again : tie.Need-loop-again Inv-loop μ-loop
+loop-again c = (
+  omega (arith, c .before .before .loop-test .taken),
+  every-next _ _ (c .before .before .before .loop .inv .1) (sym (c .before .pair-in-time .ensures) ∙ not-false _ (c .if1 .left)),
+)
+
+returns-2 : tie.Need-returns-2 Inv-loop μ-loop
+unfolding rowInTime
+returns-2 c = let e : c .before .loop .v ≡ c .before .before .before .args .n = omega arith in sym (rw e at (c .before .loop .inv .1))
+
+pub row-in-time-spec : {M : Type 1} → statement M
+row-in-time-spec =
+    tie.close
+    (tie.spec
+    Inv-loop
+    μ-loop
+    loop-holds
+    pair-in-time-requires
+    returns
+    add-v
+    loop-less
+    loop-again
+    returns-2)
