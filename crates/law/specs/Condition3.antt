@@ -101,7 +101,7 @@ module _ (n h : ℕ) (n32 : n ≤ 32) (r : List (List ℕ)) (k : Recording n r) 
 
 -- ---- joined recordings
 
-joined-recorded : (n : ℕ) (p x s : List (List ℕ)) → Recording n p → Recording n x → Recording n s → Recording n (p ++ x ++ s)
+pub joined-recorded : (n : ℕ) (p x s : List (List ℕ)) → Recording n p → Recording n x → Recording n s → Recording n (p ++ x ++ s)
 joined-recorded n p x s a b c = rec-append n (p ++ x) s (rec-append n p x a b) c
 
 joined-some : (p x s : List (List ℕ)) → 1 ≤ length p → 1 ≤ length (p ++ x ++ s)

@@ -8,9 +8,13 @@ use native.Mathlib.Nat.{le-refl}
 use native.Mathlib.Omega.{arith}
 use lib.Dec.{T}
 use lib.ListN.{length}
-use Rattle.model.specs.Recording.{Clean, Recording, pickAt}
+use Rattle.model.specs.Recording.{link, Clean, Recording, pickAt}
 use Rattle.model.specs.Journey.{atMost}
 use Rattle.model.specs.Measures.{CommonLink, PassesCommon, SomeLink, PassesFootprint, PassesReach, PassesRoundTrip}
+use Rattle.model.specs.Length.{Upward}
+use Rattle.model.proofs.Logic.{dec-of}
+use Rattle.model.proofs.Lengths.{Decided}
+use Rattle.model.proofs.Monotone.{JourneysDecided, round-up}
 use Rattle.model.proofs.Links.{link-from, link-to}
 use Rattle.model.proofs.Windows.{pick-at}
 use Rattle.links.specs.Tables.{compose, within}
@@ -19,11 +23,19 @@ use Rattle.links.proofs.Tells.{marks-once, common-own, common-join, footprint-o
 use Rattle.times.specs.Tells.{TellsTimes}
 use Rattle.times.proofs.Times.{own-tells, compose-tells, tells-once, tells-test}
 use Rattle.measures.specs.Kit.{Kit, kitWith, widthOf, ownOf, joinOf, passOf}
-use Rattle.law.specs.Faithful.{Faithful}
+use Rattle.law.specs.Faithful.{Faithful, windowTable, window-tells}
 
 -- the test of K against the footprint tells whether a window passes
 abbrev pub Tested : Kit → List ℕ → List (List ℕ) → (ℕ → ℕ → List ℕ → Type 0) → (ℕ → ℕ → Type 0) → Type 0
 Tested K footprint r Tells P = (i j : ℕ) (t : List ℕ) → 1 ≤ i → i ≤ j → j ≤ length r → Tells i j t → T (K .pass footprint t) ↔ P i j
+
+-- where the tables tell the truth and the test tells who passes, passing is decided
+pub decided : (K : Kit) (footprint : List ℕ) (r : List (List ℕ)) (Tells : ℕ → ℕ → List ℕ → Type 0) (P : ℕ → ℕ → Type 0)
+    → Faithful (K .join) (K .own) r Tells → Tested K footprint r Tells P → Decided P (length r)
+decided K footprint r Tells P law test i j a b c =
+    let t = windowTable (K .join) (K .own) r i j in
+    let e = test i j t a b c (window-tells (K .join) (K .own) r Tells law i j a b c) in
+    dec-of (K .pass footprint t) (e .0) (e .1)
 
 module _ (hops turn n : ℕ) (n32 : n ≤ 32) (r : List (List ℕ)) (rec : Recording n r) where
   -- ---- measure 1: the table marks the links open at every pick
@@ -84,6 +96,13 @@ module _ (hops turn n : ℕ) (n32 : n ≤ 32) (r : List (List ℕ)) (rec : Recor
   unfolding passOf
   reach-tested footprint i j t a b c m = full-test n _ t (m .marks)
 
+  -- so journeys are decided
+  pub journeys-decided : JourneysDecided r n (atMost hops)
+  journeys-decided i j u v a b c hu hv ne =
+      let t = windowTable (compose n) (λ i. within n hops) r i j in
+      let e = window-tells (compose n) (λ i. within n hops) r (λ i j. Marks n (Reaches r (atMost hops) i j)) reach-faithful i j a b c .marks u v hu hv in
+      dec-of (link t u v) (λ m. e .0 m .1) (λ f. e .1 (ne, f))
+
   -- ---- measure 4: arrivals are earliest and departures latest
 
   pub round-faithful : Faithful (kitWith hops turn 4 n .join) (kitWith hops turn 4 n .own) r (TellsTimes r n (atMost hops))
@@ -97,3 +116,7 @@ module _ (hops turn n : ℕ) (n32 : n ≤ 32) (r : List (List ℕ)) (rec : Recor
   pub round-tested : (footprint : List ℕ) → Tested (kitWith hops turn 4 n) footprint r (TellsTimes r n (atMost hops)) (PassesRoundTrip r n (atMost hops) turn)
   unfolding passOf
   round-tested footprint i j t a b c m = tells-test a b c m
+
+  -- requirement 3'' of source document 002 for measure 4; `model` has it for the others
+  pub round-upward : Upward (PassesRoundTrip r n (atMost hops) turn) (length r)
+  round-upward = round-up r n (atMost hops) turn journeys-decided

@@ -3,3 +3,4 @@ pub mod Faithful
 pub mod Kits
 pub mod Stars
 pub mod Condition3
+pub mod Unlimited

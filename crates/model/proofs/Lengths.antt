@@ -67,3 +67,25 @@ none-whole P m up h = (
   λ z p. z m h (omega arith) (whole P m p),
   λ z k a b e. z (up 1 k 1 m (omega arith) (omega arith) a b (omega arith) (e 1 k (omega arith) b (omega arith))),
 )
+
+-- ---- lengths go by which windows pass
+
+-- P and Q agree on the windows of the picks 1 to m
+abbrev pub Agree : (ℕ → ℕ → Type 0) → (ℕ → ℕ → Type 0) → ℕ → Type 0
+Agree P Q m = (i j : ℕ) → 1 ≤ i → i ≤ j → j ≤ m → P i j ↔ Q i j
+
+pub agree-back : {P Q : ℕ → ℕ → Type 0} {m : ℕ} → Agree P Q m → Agree Q P m
+agree-back e i j a b c = let f = e i j a b c in (f .1, f .0)
+
+every-agree : {P Q : ℕ → ℕ → Type 0} {m k : ℕ} → Agree P Q m → 1 ≤ k → Every P m k → Every Q m k
+every-agree e h f i j a b c = e i j a (omega arith) b .0 (f i j a b c)
+
+pub smallest-agree : {P Q : ℕ → ℕ → Type 0} {m k : ℕ} → Agree P Q m → Smallest P m k → Smallest Q m k
+smallest-agree e s = record { low = s .low; high = s .high; every = every-agree e (s .low) (s .every); least = λ l a b f. s .least l a b (every-agree (agree-back e) a f) }
+
+pub largest-agree : {P Q : ℕ → ℕ → Type 0} {m k : ℕ} → Agree P Q m → Largest P m k → Largest Q m k
+largest-agree {k = k} e s = let h = s .low in
+    record { low = h; high = s .high; every = every-agree e h (s .every); greatest = λ l a b f. s .greatest l a b (every-agree (agree-back e) (omega arith) f) }
+
+pub none-agree : {P Q : ℕ → ℕ → Type 0} {m : ℕ} → Agree P Q m → NoLength P m → NoLength Q m
+none-agree e f k a b g = f k a b (every-agree (agree-back e) a g)
