@@ -3,3 +3,4 @@ pub mod Recording
 pub mod Journey
 pub mod Measures
 pub mod Length
+pub mod Refusals

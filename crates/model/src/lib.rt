@@ -11,3 +11,40 @@ pub struct Compositions(pub usize);
 
 // How many tests were made.
 pub struct Tests(pub usize);
+
+// The causes of 01, in the order of their numbers, 1 to 16; `number` in specs/Refusals.antt gives each its number.
+pub enum Refusal {
+    // n not 2 to 32
+    Boards,
+    // measure not 1 to 4
+    Measure,
+    // pick limit, or picks lent whole, not 1 to 4,096
+    Picks,
+    // lent area or output shorter than needed
+    Room,
+    // forbidden bit in a pick or link list
+    Forbidden,
+    // measure 2 pick by pick: link outside the list
+    Unlisted,
+    // pick beyond the limit
+    Full,
+    // no pick yet
+    NoPick,
+    // no length exists
+    NoLength,
+    // words not n (a pick or list), or not a multiple of n (whole)
+    Shape,
+    // unknown command, first not 42, or 42 again
+    Command,
+    // file stops before 45 or inside operands
+    Stopped,
+    // link operands equal, or n or above
+    Operands,
+    // opening an open link or shutting a shut one
+    Unchanged,
+    // bytes after 45
+    Trailing,
+    // place: n, measure or limit out of range, m above limit, b above m, s not 1 to b + 1, s above m when m is 1 or more,
+    // a test marked as failed or as passed when m is 0, compositions above 4 × m or tests above 2 × m
+    BadPlace,
+}

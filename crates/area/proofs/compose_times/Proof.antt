@@ -1,0 +1,63 @@
+-- `area::compose_times` meets its contract: the first words of the copies are the parts.
+-- Assumes nothing.
+use mathlib.Core.Path.{_∙_}
+use native.Mathlib.Omega.{arith}
+use Rattle.area.specs.Parts.{composeAt}
+use Rattle.area.proofs.Lent.{has-at, copy-words, width-most}
+use borrow.Author.Needs.{needs}
+use Rattle.area.proofs.compose_times.Statement.{statement}
+use Rattle.area.proofs.compose_times.Tie as tie
+
+width-requires : tie.Need-width-requires
+width-requires c κs = search needs
+
+times-part-requires : tie.Need-times-part-requires
+times-part-requires c κs = let q = c .before .width .ensures in let h = c .before .before .before .pre in (omega (arith, width-most (c .before .before .before .args .measure) _ (h .0)), has-at q (h .1 .1 .0))
+
+times-part-requires-2 : tie.Need-times-part-requires-2
+times-part-requires-2 c κs = let q = c .before .before .before .width .ensures in let h = c .before .before .before .before .before .pre in (omega (arith, width-most (c .before .before .before .before .before .args .measure) _ (h .0)), has-at q (h .1 .1 .1))
+
+sub-compose-into : tie.Need-sub-compose-into
+sub-compose-into c = search needs
+
+part-compose-into-start : tie.Need-part-compose-into-start
+part-compose-into-start c = search needs
+
+part-compose-into-end : tie.Need-part-compose-into-end
+part-compose-into-end c = let q = c .before .before .before .before .before .before .width .ensures in omega (arith, width-most (c .before .before .before .before .before .before .before .before .args .measure) _ (c .before .before .before .before .before .before .before .before .pre .0))
+
+sub-compose-into-2 : tie.Need-sub-compose-into-2
+sub-compose-into-2 c = search needs
+
+part-compose-into-start-2 : tie.Need-part-compose-into-start-2
+part-compose-into-start-2 c = search needs
+
+part-compose-into-end-2 : tie.Need-part-compose-into-end-2
+part-compose-into-end-2 c = let q = c .before .before .before .before .before .before .before .before .width .ensures in omega (arith, width-most (c .before .before .before .before .before .before .before .before .before .before .args .measure) _ (c .before .before .before .before .before .before .before .before .before .before .pre .0))
+
+compose-into-requires : tie.Need-compose-into-requires
+compose-into-requires c κs = search needs
+
+same-length : tie.Need-same-length
+same-length c = search needs
+
+returns : tie.Need-returns
+unfolding composeAt
+returns c = c .before .before .compose-into .ensures ∙ simp (copy-words 2048 _ _ (c .before .before .before .before .before .before .before .before .before .before .before .before .width .ensures) (c .before .before .before .before .before .before .before .before .before .before .before .before .before .before .pre .1 .1 .0) (c .before .before .before .before .before .before .before .before .before .before .times-part .ensures), copy-words 2048 _ _ (c .before .before .before .before .before .before .before .before .before .before .before .before .width .ensures) (c .before .before .before .before .before .before .before .before .before .before .before .before .before .before .pre .1 .1 .1) (c .before .before .before .before .before .before .before .before .times-part2 .ensures))
+
+pub compose-times-spec : {M : Type 1} → statement M
+compose-times-spec =
+    tie.close
+    (tie.spec
+    width-requires
+    times-part-requires
+    times-part-requires-2
+    sub-compose-into
+    part-compose-into-start
+    part-compose-into-end
+    sub-compose-into-2
+    part-compose-into-start-2
+    part-compose-into-end-2
+    compose-into-requires
+    same-length
+    returns)

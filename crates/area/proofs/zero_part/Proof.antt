@@ -1,0 +1,59 @@
+-- `area::zero_part` meets its contract: the part that is lent becomes zero.
+-- Assumes nothing.
+use native.Mathlib.Omega.{arith}
+use native.Mathlib.Nat.{add-sub-cancel-left}
+use Rattle.area.specs.Parts.{putPart, zeroAt}
+use Rattle.area.proofs.Lent.{fits-at}
+use borrow.Author.Needs.{needs}
+use Rattle.area.proofs.zero_part.Statement.{statement}
+use Rattle.area.proofs.zero_part.Tie as tie
+
+width-requires : tie.Need-width-requires
+width-requires c κs = search needs
+
+sub-at : tie.Need-sub-at
+sub-at c = search needs
+
+mul-at : tie.Need-mul-at
+mul-at c = omega (arith, fits-at (c .width .ensures) (c .before .before .pre .1))
+
+add-zero-over : tie.Need-add-zero-over
+add-zero-over c = omega (arith, fits-at (c .width .ensures) (c .before .before .pre .1))
+
+mul-zero-over : tie.Need-mul-zero-over
+mul-zero-over c = omega (arith, fits-at (c .width .ensures) (c .before .before .pre .1))
+
+sub-zero-over : tie.Need-sub-zero-over
+sub-zero-over c = search needs
+
+part-zero-over-start : tie.Need-part-zero-over-start
+part-zero-over-start c = search needs
+
+part-zero-over-end : tie.Need-part-zero-over-end
+part-zero-over-end c = omega (arith, fits-at (c .width .ensures) (c .before .before .pre .1))
+
+zero-over-requires : tie.Need-zero-over-requires
+zero-over-requires c κs = search needs
+
+same-length : tie.Need-same-length
+same-length c = search needs
+
+returns : tie.Need-returns
+unfolding putPart zeroAt
+returns c = simp (add-sub-cancel-left, c .before .before .before .before .width .ensures, c .before .before .zero-over .ensures)
+
+pub zero-part-spec : {M : Type 1} → statement M
+zero-part-spec =
+    tie.close
+    (tie.spec
+    width-requires
+    sub-at
+    mul-at
+    add-zero-over
+    mul-zero-over
+    sub-zero-over
+    part-zero-over-start
+    part-zero-over-end
+    zero-over-requires
+    same-length
+    returns)

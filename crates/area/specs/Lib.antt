@@ -1,0 +1,2 @@
+-- Definitions that the contracts of `area` cite.
+pub mod Parts

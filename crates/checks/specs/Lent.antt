@@ -1,0 +1,20 @@
+-- Picks lent as words, n words a pick, one pick after the other.
+use mathlib.Core.Bool.{Bool, true, _&&_}
+use mathlib.Core.List.{List, [], _∷_, _++_}
+use Prim.Native.Nat.{ℕ, zero, suc, _*_}
+use lib.ListN.{take, drop}
+use Rattle.checks.specs.Checks.{clean}
+
+-- the pick with k picks before it
+unfoldable pub lentPick : ℕ → List ℕ → ℕ → List ℕ
+lentPick n w k = take n (drop (k * n) w)
+
+-- the first k picks, as a recording
+unfoldable pub lentPicks : ℕ → List ℕ → ℕ → List (List ℕ)
+lentPicks n w zero = []
+lentPicks n w (suc k) = lentPicks n w k ++ (lentPick n w k ∷ [])
+
+-- none of the first k picks has a forbidden bit
+unfoldable pub cleanPicks : ℕ → List ℕ → ℕ → Bool
+cleanPicks n w zero = true
+cleanPicks n w (suc k) = cleanPicks n w k && clean n (lentPick n w k)

@@ -1,0 +1,22 @@
+-- 01's number of each cause.
+use Prim.Native.Nat.{ℕ}
+use Rattle.model.specs.declared.Refusal.{Refusal}
+use Rattle.model.specs.declared.Refusal.the-variants.{Boards, Measure, Picks, Room, Forbidden, Unlisted, Full, NoPick, NoLength, Shape, Command, Stopped, Operands, Unchanged, Trailing, BadPlace}
+
+abbrev pub number : Refusal → ℕ
+number Boards = 1
+number Measure = 2
+number Picks = 3
+number Room = 4
+number Forbidden = 5
+number Unlisted = 6
+number Full = 7
+number NoPick = 8
+number NoLength = 9
+number Shape = 10
+number Command = 11
+number Stopped = 12
+number Operands = 13
+number Unchanged = 14
+number Trailing = 15
+number BadPlace = 16

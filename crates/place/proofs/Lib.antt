@@ -1,0 +1,2 @@
+-- Laws of the place.
+pub mod Laws

@@ -1,0 +1,41 @@
+-- `place::Place::is_in_range` meets its contract: the three ranges, one after the other.
+-- Assumes nothing.
+use mathlib.Core.Path.{sym, _∙_}
+use borrow.Author.Tests.{not-true, not-false}
+use Rattle.place.specs.Places.{inRange}
+use Rattle.place.proofs.Laws.{and-step, and-stop}
+use borrow.Author.Needs.{needs}
+use Rattle.place.proofs.Place.is_in_range.Statement.{statement}
+use Rattle.place.proofs.Place.is_in_range.Tie as tie
+
+is-between-requires : tie.Need-is-between-requires
+is-between-requires c κs = search needs
+
+returns : tie.Need-returns
+unfolding inRange
+returns c = and-stop _ (sym (c .before .is-between .ensures) ∙ not-true _ (c .if1 .taken))
+
+is-between-requires-2 : tie.Need-is-between-requires-2
+is-between-requires-2 c κs = search needs
+
+returns-2 : tie.Need-returns-2
+unfolding inRange
+returns-2 c = and-step (sym (c .before .before .before .is-between .ensures) ∙ not-false _ (c .before .before .if1 .left)) (and-stop _ (sym (c .before .is-between2 .ensures) ∙ not-true _ (c .if2 .taken)))
+
+is-between-requires-3 : tie.Need-is-between-requires-3
+is-between-requires-3 c κs = search needs
+
+returns-3 : tie.Need-returns-3
+unfolding inRange
+returns-3 c = and-step (sym (c .before .before .before .before .is-between .ensures) ∙ not-false _ (c .before .before .before .if1 .left)) (and-step (sym (c .before .before .is-between2 .ensures) ∙ not-false _ (c .before .if2 .left)) (c .is-between3 .ensures))
+
+pub is-in-range-spec : {M : Type 1} → statement M
+is-in-range-spec =
+    tie.close
+    (tie.spec
+    is-between-requires
+    returns
+    is-between-requires-2
+    returns-2
+    is-between-requires-3
+    returns-3)

@@ -1,0 +1,71 @@
+-- `place::Place::is_sound` meets its contract: the parts of cause 16, one after the other, each with what the ones before it showed.
+-- Assumes nothing.
+use mathlib.Core.Path.{sym, _∙_}
+use borrow.Author.Tests.{not-true, not-false}
+use Rattle.place.specs.Places.{soundPlace}
+use Rattle.place.proofs.Laws.{and-step, and-stop, limit-within, taken-low}
+use borrow.Author.Needs.{needs}
+use Rattle.place.proofs.Place.is_sound.Statement.{statement}
+use Rattle.place.proofs.Place.is_sound.Tie as tie
+
+is-in-range-requires : tie.Need-is-in-range-requires
+is-in-range-requires c κs = search needs
+
+returns : tie.Need-returns
+unfolding soundPlace
+returns c = and-stop _ (sym (c .before .is-in-range .ensures) ∙ not-true _ (c .if1 .taken))
+
+is-sound-window-requires : tie.Need-is-sound-window-requires
+is-sound-window-requires c κs = limit-within (c .before .before .args .self) (sym (c .before .is-in-range .ensures) ∙ not-false _ (c .if1 .left))
+
+returns-2 : tie.Need-returns-2
+unfolding soundPlace
+returns-2 c = and-step (sym (c .before .before .before .is-in-range .ensures) ∙ not-false _ (c .before .before .if1 .left)) (and-stop _ (sym (c .before .is-sound-window .ensures) ∙ not-true _ (c .if2 .taken)))
+
+is-sound-start-requires : tie.Need-is-sound-start-requires
+is-sound-start-requires c κs = search needs
+
+returns-3 : tie.Need-returns-3
+unfolding soundPlace
+returns-3 c =
+    and-step (sym (c .before .before .before .before .before .is-in-range .ensures) ∙ not-false _ (c .before .before .before .before .if1 .left))
+    (and-step (sym (c .before .before .before .is-sound-window .ensures) ∙ not-false _ (c .before .before .if2 .left))
+    (and-stop _ (sym (c .before .is-sound-start .ensures) ∙ not-true _ (c .if3 .taken))))
+
+are-sound-marks-requires : tie.Need-are-sound-marks-requires
+are-sound-marks-requires c κs = search needs
+
+returns-4 : tie.Need-returns-4
+unfolding soundPlace
+returns-4 c =
+    and-step (sym (c .before .before .before .before .before .before .before .is-in-range .ensures) ∙ not-false _ (c .before .before .before .before .before .before .if1 .left))
+    (and-step (sym (c .before .before .before .before .before .is-sound-window .ensures) ∙ not-false _ (c .before .before .before .before .if2 .left))
+    (and-step (sym (c .before .before .before .is-sound-start .ensures) ∙ not-false _ (c .before .before .if3 .left))
+    (and-stop _ (sym (c .before .are-sound-marks .ensures) ∙ not-true _ (c .if4 .taken)))))
+
+are-sound-counts-requires : tie.Need-are-sound-counts-requires
+are-sound-counts-requires c κs =
+    taken-low (c .before .before .before .before .before .before .before .before .args .self) (sym (c .before .before .before .before .before .before .before .is-in-range .ensures) ∙ not-false _ (c .before .before .before .before .before .before .if1 .left)) (sym (c .before .before .before .before .before .is-sound-window .ensures) ∙ not-false _ (c .before .before .before .before .if2 .left))
+
+returns-5 : tie.Need-returns-5
+unfolding soundPlace
+returns-5 c =
+    and-step (sym (c .before .before .before .before .before .before .before .before .is-in-range .ensures) ∙ not-false _ (c .before .before .before .before .before .before .before .if1 .left))
+    (and-step (sym (c .before .before .before .before .before .before .is-sound-window .ensures) ∙ not-false _ (c .before .before .before .before .before .if2 .left))
+    (and-step (sym (c .before .before .before .before .is-sound-start .ensures) ∙ not-false _ (c .before .before .before .if3 .left))
+    (and-step (sym (c .before .before .are-sound-marks .ensures) ∙ not-false _ (c .before .if4 .left)) (c .are-sound-counts .ensures))))
+
+pub is-sound-spec : {M : Type 1} → statement M
+is-sound-spec =
+    tie.close
+    (tie.spec
+    is-in-range-requires
+    returns
+    is-sound-window-requires
+    returns-2
+    is-sound-start-requires
+    returns-3
+    are-sound-marks-requires
+    returns-4
+    are-sound-counts-requires
+    returns-5)

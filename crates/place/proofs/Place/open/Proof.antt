@@ -1,0 +1,16 @@
+-- `place::Place::open` meets its contract: boards and limit are put into the fresh value of the measure.
+-- Assumes nothing.
+use Rattle.place.specs.Places.{fresh}
+use borrow.Author.Needs.{needs}
+use Rattle.place.proofs.Place.open.Statement.{statement}
+use Rattle.place.proofs.Place.open.Tie as tie
+
+of-measure-requires : tie.Need-of-measure-requires
+of-measure-requires c κs = search needs
+
+returns : tie.Need-returns
+unfolding fresh
+returns c = rw (c .of-measure .ensures)
+
+pub open-spec : {M : Type 1} → statement M
+open-spec = tie.close (tie.spec of-measure-requires returns)

@@ -1,0 +1,2 @@
+-- Definitions that the contracts of `place` cite.
+pub mod Places
