@@ -1,3 +1,4 @@
 -- The table rule of constants, and what the checks say.
 pub mod Table
 pub mod Clean
+pub mod Lent

@@ -1,8 +1,9 @@
 -- Picks lent as words, n words a pick, one pick after the other.
-use mathlib.Core.Bool.{Bool, true, _&&_}
+use mathlib.Core.Bool.{Bool}
 use mathlib.Core.List.{List, [], _∷_, _++_}
 use Prim.Native.Nat.{ℕ, zero, suc, _*_}
 use lib.ListN.{take, drop}
+use Rattle.lists.specs.Tab.{every}
 use Rattle.checks.specs.Checks.{clean}
 
 -- the pick with k picks before it
@@ -14,7 +15,10 @@ unfoldable pub lentPicks : ℕ → List ℕ → ℕ → List (List ℕ)
 lentPicks n w zero = []
 lentPicks n w (suc k) = lentPicks n w k ++ (lentPick n w k ∷ [])
 
--- none of the first k picks has a forbidden bit
+-- the pick with k picks before it has no forbidden bit
+unfoldable pub cleanPick : ℕ → List ℕ → ℕ → Bool
+cleanPick n w k = clean n (lentPick n w k)
+
+-- none of the first k picks has one
 unfoldable pub cleanPicks : ℕ → List ℕ → ℕ → Bool
-cleanPicks n w zero = true
-cleanPicks n w (suc k) = cleanPicks n w k && clean n (lentPick n w k)
+cleanPicks n w k = every (cleanPick n w) k

@@ -1,8 +1,9 @@
 // Checks of a pick or a footprint: forbidden bits, and links outside the footprint.
 ghost use mathlib.Core.Path.{_≡_};
-ghost use Prim.Native.Nat.{_<_, _≤_};
+ghost use Prim.Native.Nat.{_*_, _<_, _≤_};
 ghost use lib.ListN.{length};
 ghost use Rattle.checks.specs.Checks.{allowed, cleanRow, clean, listed};
+ghost use Rattle.checks.specs.Lent.{cleanPicks};
 use model::Board;
 
 // The allowed bits for each number of boards n, 0 to 32: those below n. Row a of n boards may hold them all but bit a.
@@ -70,6 +71,20 @@ pub fn is_clean(words: &[u32], n: usize) -> bool
 {
     for u in 0..n {
         if !is_clean_row(words, Board(u), n) {
+            return false;
+        }
+    }
+    true
+}
+
+// Whether none of the first m picks, n words each, has a forbidden bit.
+pub fn are_clean(words: &[u32], n: usize, m: usize) -> bool
+    requires { ⌜ (n ≤ 32) × ((m ≤ 4096) × (m * n ≤ length (now words))) ⌝ }
+    ensures { λ r. ⌜ r ≡ cleanPicks n (now (words .entry)) m ⌝ }
+{
+    for k in 0..m {
+        let at = k * n;
+        if !is_clean(&words[at..at + n], n) {
             return false;
         }
     }

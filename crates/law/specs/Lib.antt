@@ -4,3 +4,8 @@ pub mod Kits
 pub mod Stars
 pub mod Condition3
 pub mod Unlimited
+pub mod Frames
+pub mod Ladders
+pub mod Costs
+pub mod MinWalk
+pub mod MaxWalk

@@ -29,7 +29,7 @@ pub struct Place {
 }
 
 // Whether x is low to high: each range of cause 16 is one call of it.
-fn is_between(low: usize, x: usize, high: usize) -> bool
+pub fn is_between(low: usize, x: usize, high: usize) -> bool
     ensures { λ r. ⌜ r ≡ between low x high ⌝ }
 {
     if x < low {

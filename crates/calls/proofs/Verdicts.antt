@@ -1,0 +1,127 @@
+-- Verdicts: how code arrives at one, and what one says, read back. Assumes nothing.
+use mathlib.Core.Path.{_≡_, refl, sym, ap, _∙_, subst}
+use mathlib.Core.Bool.{Bool, true, false, _&&_, not}
+use Prim.Native.Nat.{ℕ, _+_, _*_, _≤_, _<_}
+use native.Mathlib.Nat.{mul-le-mul}
+use native.Mathlib.Omega.{arith}
+use mathlib.Core.List.{List}
+use lib.Dec.{eqb, eqb→eq, leb, leb→le, ltb, lt→ltb}
+use lib.ListN.{length}
+use Rattle.model.proofs.Logic.{tr, T→≡, eq-refl, and-l, and-r}
+use Rattle.checks.specs.Checks.{clean}
+use Rattle.measures.specs.Kit.{widthOf}
+use Rattle.measures.proofs.Words.{width-links}
+use Rattle.area.specs.Parts.{Has}
+use Rattle.area.proofs.Laws.{has}
+use Rattle.area.proofs.Lent.{width-most}
+use Rattle.place.specs.Places.{between}
+use Rattle.model.specs.declared.Refusal.{Refusal}
+use Rattle.model.specs.declared.Refusal.the-variants.{Boards, Measure, Picks, Room, Forbidden, Unlisted, Full, NoPick, NoLength, Shape, Command, Stopped, Operands, Unchanged, Trailing, BadPlace}
+use Rattle.model.specs.Refusals.{number}
+use Rattle.calls.specs.Calls.{stop, needed, openVerdict}
+use Rattle.calls.specs.Fit.{Opens}
+
+-- a test that fails leaves it to the rest
+pub stop-step : {x : Bool} (c : ℕ) {v r : ℕ} → x ≡ false → r ≡ v → r ≡ stop x c v
+unfolding stop
+stop-step c e g = rw (e, g)
+
+-- the first test that holds decides
+pub stop-here : {x : Bool} {c : ℕ} (v : ℕ) → x ≡ true → c ≡ stop x c v
+unfolding stop
+stop-here v e = rw e
+
+-- where nothing refuses, each test fails
+pub stop-out : (x : Bool) (c v : ℕ) → 1 ≤ c → stop x c v ≡ 0 → (x ≡ false) × (v ≡ 0)
+unfolding stop
+stop-out true c v h e = absurd (omega arith)
+stop-out false c v h e = (refl, e)
+
+-- a refusal has a number
+pub number-some : (c : Refusal) → eqb (number c) 0 ≡ false
+number-some Boards = refl
+number-some Measure = refl
+number-some Picks = refl
+number-some Room = refl
+number-some Forbidden = refl
+number-some Unlisted = refl
+number-some Full = refl
+number-some NoPick = refl
+number-some NoLength = refl
+number-some Shape = refl
+number-some Command = refl
+number-some Stopped = refl
+number-some Operands = refl
+number-some Unchanged = refl
+number-some Trailing = refl
+number-some BadPlace = refl
+
+-- a range that was checked
+pub between-says : (low x high : ℕ) → between low x high ≡ true → (low ≤ x) × (x ≤ high)
+unfolding between
+between-says low x high e =
+    let t = tr (sym e) tt in
+    (leb→le low x (and-l (leb low x) (leb x high) t), leb→le x high (and-r (leb low x) (leb x high) t))
+
+-- a check passed or failed, as code finds it
+pub passed-by : {x y : Bool} → x ≡ y → not x ≡ false → not y ≡ false
+passed-by e f = ap not (sym e) ∙ f
+
+pub failed-by : {x y : Bool} → x ≡ y → not x ≡ true → not y ≡ true
+failed-by e f = ap not (sym e) ∙ f
+
+pub holds-by : {x y : Bool} → x ≡ y → not x ≡ false → y ≡ true
+holds-by {x} {y} e f = sym e ∙ go x f
+  where
+    go : (x : Bool) → not x ≡ false → x ≡ true
+    go true f = refl
+    go false f = sym f
+
+-- the words that an area needs are few enough to be counted
+pub needed-most : (measure n limit e : ℕ) → n ≤ 32 → limit ≤ 4096 → e ≡ widthOf measure n → (limit + 4) * e ≤ 8396800
+needed-most measure n limit e a b q =
+    let w = width-most measure n a in
+    let x : limit + 4 ≤ 4100 = omega arith in
+    let y : e ≤ 2048 = omega arith in
+    omega (arith, mul-le-mul x y)
+
+-- part limit + 3 lies in the area
+pub third-part : (measure n limit words : ℕ) → needed measure n limit ≤ words → Has (widthOf measure n) words (limit + 3)
+third-part measure n limit words h = has (widthOf measure n) (limit + 4) words (limit + 3) h (omega arith) (omega arith)
+
+-- the same, of the width and the length that code has
+pub third-fits : (measure n limit e words after : ℕ) → e ≡ widthOf measure n → after ≡ words → needed measure n limit ≤ words → Has e after (limit + 3)
+third-fits measure n limit e words after q k h = rw (q, k) (third-part measure n limit words h)
+
+-- the footprint of measure 2 fills a part
+pub footprint-fills : (measure n e words : ℕ) → measure ≡ 2 → e ≡ widthOf measure n → n ≡ words → e ≡ words
+footprint-fills measure n e words m q l = q ∙ width-links measure n (λ x. omega arith) ∙ l
+
+pub not-short : (x y : ℕ) → ltb x y ≡ false → y ≤ x
+not-short x y e = let g : x < y → ⊥ = λ h. tr e (lt→ltb x y h) in omega arith
+
+-- what an opening relies on
+pub open-sound : (n measure limit : ℕ) (footprint a : List ℕ) → openVerdict n measure limit footprint a ≡ 0 → Opens n measure limit footprint a × ((1 ≤ measure) × (measure ≤ 4))
+unfolding openVerdict
+open-sound n measure limit footprint a e =
+    let s1 = stop-out (not (between 2 n 32)) 1 _ (omega arith) e in
+    let s2 = stop-out (not (between 1 measure 4)) 2 _ (omega arith) (s1 .1) in
+    let s3 = stop-out (not (between 1 limit 4096)) 3 _ (omega arith) (s2 .1) in
+    let s4 = stop-out (eqb measure 2 && not (eqb (length footprint) n)) 10 _ (omega arith) (s3 .1) in
+    let s5 = stop-out (eqb measure 2 && not (clean n footprint)) 5 _ (omega arith) (s4 .1) in
+    let s6 = stop-out (ltb (length a) (needed measure n limit)) 4 0 (omega arith) (s5 .1) in
+    let b = between-says 1 measure 4 (holds-by refl (s2 .0)) in (
+      record {
+        few = between-says 2 n 32 (holds-by refl (s1 .0)) .1;
+        cap = between-says 1 limit 4096 (holds-by refl (s3 .0)) .1;
+        room = not-short (length a) (needed measure n limit) (s6 .0);
+        list = λ m. eq-of (length footprint) n (holds-by refl (subst (λ (x : Bool). x && not (eqb (length footprint) n) ≡ false) (two m) (s4 .0)));
+      },
+      (b .0, b .1),
+    )
+  where
+    two : measure ≡ 2 → eqb measure 2 ≡ true
+    two m = T→≡ (eqb measure 2) (eq-refl m)
+
+    eq-of : (x y : ℕ) → eqb x y ≡ true → y ≡ x
+    eq-of x y e = sym (eqb→eq x y (tr (sym e) tt))

@@ -1,0 +1,53 @@
+-- `calls::open` meets its contract: the verdict, and the effect where nothing refuses.
+-- Assumes nothing.
+use mathlib.Core.Path.{_≡_, sym, ap, _∙_}
+use Rattle.place.specs.Places.{nowhere}
+use Rattle.calls.specs.Answers.{verdictSays}
+use Rattle.calls.specs.Calls.{openSays, openLeaves}
+use Rattle.calls.proofs.Verdicts.{open-sound, number-some}
+use borrow.Author.Needs.{needs}
+use Rattle.calls.proofs.open.Statement.{statement}
+use Rattle.calls.proofs.open.Tie as tie
+
+open-verdict-requires : tie.Need-open-verdict-requires
+open-verdict-requires c κs = search needs
+
+enum-told : tie.Need-enum-told
+enum-told c = search needs
+
+open-area-requires : tie.Need-open-area-requires
+open-area-requires c κs = open-sound _ _ _ _ _ (sym (c .before .before .before .open-verdict .ensures) ∙ ap verdictSays (c .before .enum-told .given .1)) .0
+
+open-requires : tie.Need-open-requires
+open-requires c κs = open-sound _ _ _ _ _ (sym (c .before .before .before .before .before .before .open-verdict .ensures) ∙ ap verdictSays (c .before .before .before .before .enum-told .given .1)) .1
+
+enum-known-c : tie.Need-enum-known-c
+enum-known-c c = search needs
+
+same-length : tie.Need-same-length
+same-length c = search needs
+
+returns : tie.Need-returns
+unfolding openSays openLeaves
+returns c = let e = sym (c .before .before .before .before .before .before .before .open-verdict .ensures) ∙ ap verdictSays (c .before .before .before .before .before .enum-told .given .1) in simp e (cc (c .«open» .ensures), c .before .before .before .open-area .ensures)
+
+same-length-2 : tie.Need-same-length-2
+same-length-2 c = search needs
+
+returns-2 : tie.Need-returns-2
+unfolding openSays openLeaves nowhere
+returns-2 c = let e = sym (c .before .before .before .open-verdict .ensures) ∙ ap verdictSays (c .before .c .given .1) in (simp (e, number-some (c .before .c .given .0 .0)), simp (e, number-some (c .before .c .given .0 .0)))
+
+pub open-spec : {M : Type 1} → statement M
+open-spec =
+    tie.close
+    (tie.spec
+    open-verdict-requires
+    enum-told
+    open-area-requires
+    open-requires
+    enum-known-c
+    same-length
+    returns
+    same-length-2
+    returns-2)

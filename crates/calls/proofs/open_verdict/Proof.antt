@@ -1,0 +1,74 @@
+-- `calls::open_verdict` meets its contract: the causes in their order.
+-- Assumes nothing.
+use mathlib.Core.Path.{_≡_, sym, ap, _∙_}
+use native.Mathlib.Omega.{arith}
+use borrow.Author.Tests.{eq-eqb, ne-eqb}
+use Rattle.calls.specs.Calls.{openVerdict}
+use Rattle.calls.proofs.Verdicts.{stop-step, stop-here, between-says, passed-by, failed-by, holds-by}
+use borrow.Author.Needs.{needs}
+use Rattle.calls.proofs.open_verdict.Statement.{statement}
+use Rattle.calls.proofs.open_verdict.Tie as tie
+
+is-between-requires : tie.Need-is-between-requires
+is-between-requires c κs = search needs
+
+returns : tie.Need-returns
+unfolding openVerdict
+returns c = stop-here _ (failed-by (c .before .is-between .ensures) (c .if1 .taken))
+
+is-between-requires-2 : tie.Need-is-between-requires-2
+is-between-requires-2 c κs = search needs
+
+returns-2 : tie.Need-returns-2
+unfolding openVerdict
+returns-2 c = stop-step _ (passed-by (c .before .before .before .is-between .ensures) (c .before .before .if1 .left)) (stop-here _ (failed-by (c .before .is-between2 .ensures) (c .if2 .taken)))
+
+is-between-requires-3 : tie.Need-is-between-requires-3
+is-between-requires-3 c κs = search needs
+
+returns-3 : tie.Need-returns-3
+unfolding openVerdict
+returns-3 c = stop-step _ (passed-by (c .before .before .before .before .before .is-between .ensures) (c .before .before .before .before .if1 .left)) (stop-step _ (passed-by (c .before .before .before .is-between2 .ensures) (c .before .before .if2 .left)) (stop-here _ (failed-by (c .before .is-between3 .ensures) (c .if3 .taken))))
+
+room-verdict-requires : tie.Need-room-verdict-requires
+room-verdict-requires c κs = (between-says _ _ _ (holds-by (c .before .before .before .before .before .before .is-between .ensures) (c .before .before .before .before .before .if1 .left)) .1, between-says _ _ _ (holds-by (c .before .before .is-between3 .ensures) (c .before .if3 .left)) .1)
+
+returns-4 : tie.Need-returns-4
+unfolding openVerdict
+returns-4 c = stop-step _ (passed-by (c .before .before .before .before .before .before .before .is-between .ensures) (c .before .before .before .before .before .before .if1 .left)) (stop-step _ (passed-by (c .before .before .before .before .before .is-between2 .ensures) (c .before .before .before .before .if2 .left)) (stop-step _ (passed-by (c .before .before .before .is-between3 .ensures) (c .before .before .if3 .left)) (stop-step _ (simp (ne-eqb _ _ (c .before .if4 .taken))) (stop-step _ (simp (ne-eqb _ _ (c .before .if4 .taken))) (c .room-verdict .ensures)))))
+
+returns-5 : tie.Need-returns-5
+unfolding openVerdict
+returns-5 c = stop-step _ (passed-by (c .before .before .before .before .before .before .before .is-between .ensures) (c .before .before .before .before .before .before .if1 .left)) (stop-step _ (passed-by (c .before .before .before .before .before .is-between2 .ensures) (c .before .before .before .before .if2 .left)) (stop-step _ (passed-by (c .before .before .before .is-between3 .ensures) (c .before .before .if3 .left)) (stop-here _ (simp (eq-eqb _ _ (c .before .if4 .left), ne-eqb _ _ (c .if5 .taken))))))
+
+is-clean-requires : tie.Need-is-clean-requires
+is-clean-requires c κs = (between-says _ _ _ (holds-by (c .before .before .before .before .before .before .before .is-between .ensures) (c .before .before .before .before .before .before .if1 .left)) .1, omega (arith, c .if5 .left))
+
+returns-6 : tie.Need-returns-6
+unfolding openVerdict
+returns-6 c = stop-step _ (passed-by (c .before .before .before .before .before .before .before .before .before .is-between .ensures) (c .before .before .before .before .before .before .before .before .if1 .left)) (stop-step _ (passed-by (c .before .before .before .before .before .before .before .is-between2 .ensures) (c .before .before .before .before .before .before .if2 .left)) (stop-step _ (passed-by (c .before .before .before .before .before .is-between3 .ensures) (c .before .before .before .before .if3 .left)) (stop-step _ (simp (eq-eqb _ _ (c .before .before .before .if4 .left), eq-eqb _ _ (c .before .before .if5 .left))) (stop-here _ (simp (eq-eqb _ _ (c .before .before .before .if4 .left)) (failed-by (c .before .is-clean .ensures) (c .if6 .taken)))))))
+
+room-verdict-requires-2 : tie.Need-room-verdict-requires-2
+room-verdict-requires-2 c κs = (between-says _ _ _ (holds-by (c .before .before .before .before .before .before .before .before .before .is-between .ensures) (c .before .before .before .before .before .before .before .before .if1 .left)) .1, between-says _ _ _ (holds-by (c .before .before .before .before .before .is-between3 .ensures) (c .before .before .before .before .if3 .left)) .1)
+
+returns-7 : tie.Need-returns-7
+unfolding openVerdict
+returns-7 c = stop-step _ (passed-by (c .before .before .before .before .before .before .before .before .before .before .is-between .ensures) (c .before .before .before .before .before .before .before .before .before .if1 .left)) (stop-step _ (passed-by (c .before .before .before .before .before .before .before .before .is-between2 .ensures) (c .before .before .before .before .before .before .before .if2 .left)) (stop-step _ (passed-by (c .before .before .before .before .before .before .is-between3 .ensures) (c .before .before .before .before .before .if3 .left)) (stop-step _ (simp (eq-eqb _ _ (c .before .before .before .before .if4 .left), eq-eqb _ _ (c .before .before .before .if5 .left))) (stop-step _ (simp (eq-eqb _ _ (c .before .before .before .before .if4 .left)) (passed-by (c .before .before .is-clean .ensures) (c .before .if6 .left))) (c .room-verdict2 .ensures)))))
+
+pub open-verdict-spec : {M : Type 1} → statement M
+open-verdict-spec =
+    tie.close
+    (tie.spec
+    is-between-requires
+    returns
+    is-between-requires-2
+    returns-2
+    is-between-requires-3
+    returns-3
+    room-verdict-requires
+    returns-4
+    returns-5
+    is-clean-requires
+    returns-6
+    room-verdict-requires-2
+    returns-7)

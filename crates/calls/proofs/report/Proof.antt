@@ -1,0 +1,39 @@
+-- `calls::report` meets its contract: the four cases of the report.
+-- Assumes nothing.
+use borrow.Author.Tests.{eq-eqb, ne-eqb, lt-ltb, le-ltb}
+use Rattle.steps.specs.Walk.{reported}
+use borrow.Author.Needs.{needs}
+use Rattle.calls.proofs.report.Statement.{statement}
+use Rattle.calls.proofs.report.Tie as tie
+
+add-t7 : tie.Need-add-t7
+add-t7 c = search needs
+
+sub-t8 : tie.Need-sub-t8
+sub-t8 c = search needs
+
+returns : tie.Need-returns
+unfolding reported
+returns c = simp (c .if1 .taken)
+
+returns-2 : tie.Need-returns-2
+unfolding reported
+returns-2 c = simp (c .before .before .if1 .left, eq-eqb _ _ (c .if2 .taken))
+
+add-t10 : tie.Need-add-t10
+add-t10 c = search needs
+
+sub-t11 : tie.Need-sub-t11
+sub-t11 c = search needs
+
+returns-3 : tie.Need-returns-3
+unfolding reported
+returns-3 c = simp (c .before .before .before .if1 .left, ne-eqb _ _ (c .before .if2 .left), lt-ltb _ _ (c .if3 .taken))
+
+returns-4 : tie.Need-returns-4
+unfolding reported
+returns-4 c = simp (c .before .before .before .if1 .left, ne-eqb _ _ (c .before .if2 .left), le-ltb _ _ (c .if3 .left))
+
+pub report-spec : {M : Type 1} → statement M
+report-spec =
+    tie.close (tie.spec add-t7 sub-t8 returns returns-2 add-t10 sub-t11 returns-3 returns-4)

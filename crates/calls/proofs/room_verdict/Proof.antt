@@ -1,0 +1,19 @@
+-- `calls::room_verdict` meets its contract.
+-- Assumes nothing.
+use mathlib.Core.Path.{_≡_, refl, sym, _∙_}
+use Rattle.calls.proofs.Verdicts.{stop-step, stop-here}
+use borrow.Author.Needs.{needs}
+use Rattle.calls.proofs.room_verdict.Statement.{statement}
+use Rattle.calls.proofs.room_verdict.Tie as tie
+
+is-short-requires : tie.Need-is-short-requires
+is-short-requires c κs = search needs
+
+returns : tie.Need-returns
+returns c = stop-here _ (sym (c .before .is-short .ensures) ∙ c .if1 .taken)
+
+returns-2 : tie.Need-returns-2
+returns-2 c = stop-step _ (sym (c .before .is-short .ensures) ∙ c .if1 .left) refl
+
+pub room-verdict-spec : {M : Type 1} → statement M
+room-verdict-spec = tie.close (tie.spec is-short-requires returns returns-2)

@@ -1,0 +1,50 @@
+-- Document 01's number and values for each case of each answer. The promises of the calls speak of these.
+use Prim.Native.Nat.{ℕ}
+use Rattle.model.specs.Refusals.{number}
+use Rattle.place.specs.declared.Place.{Place}
+use Rattle.calls.specs.declared.Opening.{Opening}
+use Rattle.calls.specs.declared.Opening.the-variants.{Opened, NotOpened}
+use Rattle.calls.specs.declared.Taking.{Taking}
+use Rattle.calls.specs.declared.Taking.the-variants.{Taken, NotTaken}
+use Rattle.calls.specs.declared.Answer.{Answer}
+use Rattle.calls.specs.declared.Answer.the-variants.{Length, Refused}
+use Rattle.calls.specs.declared.Verdict.{Verdict}
+use Rattle.calls.specs.declared.Verdict.the-variants.{Sound, Refuse}
+
+-- the number of the refusal, 0 for none, and the place that is handed back
+pub record Handed : Type 0 where
+  pub refusal : ℕ
+  pub place : Place
+
+abbrev pub handed : ℕ → Place → Handed
+handed c p = record { refusal = c; place = p }
+
+-- the number of the refusal, 0 for none; the length, 0 for none; the two counts
+pub record Outcome : Type 0 where
+  pub refusal : ℕ
+  pub length : ℕ
+  pub compositions : ℕ
+  pub tests : ℕ
+
+abbrev pub outcome : ℕ → ℕ → ℕ → ℕ → Outcome
+outcome c k x y = record { refusal = c; length = k; compositions = x; tests = y }
+
+-- opening answers the place
+abbrev pub openingSays : Opening → Handed
+openingSays (Opened p) = handed 0 p
+openingSays (NotOpened p c) = handed (number c) p
+
+-- a pick taken answers yes
+abbrev pub takingSays : Taking → Handed
+takingSays (Taken p) = handed 0 p
+takingSays (NotTaken p c) = handed (number c) p
+
+-- a length with its two counts, or the number with the counts
+abbrev pub answerSays : Answer → Outcome
+answerSays (Length k c t) = outcome 0 k (c .0) (t .0)
+answerSays (Refused r c t) = outcome (number r) 0 (c .0) (t .0)
+
+-- what the checks of a call find: the number of the first cause, 0 for none
+abbrev pub verdictSays : Verdict → ℕ
+verdictSays Sound = 0
+verdictSays (Refuse c) = number c

@@ -1,0 +1,166 @@
+// The calls of the walk: opening, pick, length, whole run. None requires anything.
+ghost use mathlib.Core.Path.{_≡_};
+ghost use mathlib.Core.Bool.{false};
+ghost use Prim.Native.Nat.{_+_, _*_, _/_, _%_, _≤_, _<_};
+ghost use lib.ListN.{length};
+ghost use lib.Dec.{ltb};
+ghost use Rattle.place.specs.Places.{fresh, charged};
+ghost use Rattle.steps.specs.Walk.{State, state, kitOf, stepped, reported};
+ghost use Rattle.calls.specs.Answers.{openingSays, takingSays, answerSays, verdictSays};
+ghost use Rattle.calls.specs.Fit.{Opens};
+ghost use Rattle.calls.specs.Calls.{stop, needed, openVerdict, openedArea, openSays, openLeaves, pickVerdict, pickSays, pickLeaves, reportSays, lengthSays, wholeVerdict, unions, wholeStart, wholeAfter, wholeReport, wholeSays, wholeLeaves};
+use model::Compositions;
+use model::Refusal;
+use model::Tests;
+use place::Place;
+
+// Opening answers the place, or a cause with the place of zeros and noes.
+pub enum Opening {
+    Opened(Place),
+    NotOpened(Place, Refusal),
+}
+
+// A pick taken answers yes with the place, or a cause with the place as it was.
+pub enum Taking {
+    Taken(Place),
+    NotTaken(Place, Refusal),
+}
+
+// A length with its two counts, or a cause: with the counts where no length exists, with counts 0 otherwise.
+pub enum Answer {
+    Length(usize, Compositions, Tests),
+    Refused(Refusal, Compositions, Tests),
+}
+
+// The length call hands the place back beside its answer.
+pub struct Measured {
+    pub place: Place,
+    pub answer: Answer,
+}
+
+// What the checks of a call find.
+pub enum Verdict {
+    Sound,
+    Refuse(Refusal),
+}
+
+// ---- opening
+
+// Whether the area is shorter than needed: cause 4.
+fn is_short(area: &[u32], measure: usize, n: usize, limit: usize) -> bool
+    requires { ⌜ (n ≤ 32) × (limit ≤ 4096) ⌝ }
+    ensures { λ r. ⌜ r ≡ ltb (length (now (area .entry))) (needed measure n limit) ⌝ }
+{
+    let e = measures::width(measure, n);
+    area.len() < (limit + 4) * e
+}
+
+fn room_verdict(area: &[u32], measure: usize, n: usize, limit: usize) -> Verdict
+    requires { ⌜ (n ≤ 32) × (limit ≤ 4096) ⌝ }
+    ensures { λ r. ⌜ verdictSays r ≡ stop (ltb (length (now (area .entry))) (needed measure n limit)) 4 0 ⌝ }
+{
+    if is_short(area, measure, n, limit) {
+        return Verdict::Refuse(Refusal::Room);
+    }
+    Verdict::Sound
+}
+
+// The causes of an opening, in their order: 1, 2, 3, 10, 5, 4. Only measure 2 has a footprint.
+fn open_verdict(n: usize, measure: usize, limit: usize, footprint: &[u32], area: &[u32]) -> Verdict
+    ensures { λ r. ⌜ verdictSays r ≡ openVerdict n measure limit (now (footprint .entry)) (now (area .entry)) ⌝ }
+{
+    if !place::is_between(2, n, 32) {
+        return Verdict::Refuse(Refusal::Boards);
+    }
+    if !place::is_between(1, measure, 4) {
+        return Verdict::Refuse(Refusal::Measure);
+    }
+    if !place::is_between(1, limit, 4096) {
+        return Verdict::Refuse(Refusal::Picks);
+    }
+    if measure != 2 {
+        return room_verdict(area, measure, n, limit);
+    }
+    if footprint.len() != n {
+        return Verdict::Refuse(Refusal::Shape);
+    }
+    if !checks::is_clean(footprint, n) {
+        return Verdict::Refuse(Refusal::Forbidden);
+    }
+    room_verdict(area, measure, n, limit)
+}
+
+// The needed words zero, and the footprint of measure 2 in part limit + 3.
+fn open_area(n: usize, measure: usize, limit: usize, footprint: &[u32], area: &mut [u32])
+    requires { ⌜ Opens n measure limit (now footprint) (now area) ⌝ }
+    ensures { λ _. ⌜ now (area .exit) ≡ openedArea n measure limit (now (footprint .entry)) (now (area .entry)) ⌝ }
+{
+    let e = measures::width(measure, n);
+    area::zero_first(area, (limit + 4) * e);
+    if measure != 2 {
+        return;
+    }
+    area::put_part(area, footprint, e, limit + 3);
+}
+
+// Opens a walk over n boards.
+pub fn open(
+    n: usize,
+    measure: usize,
+    limit: usize,
+    footprint: &[u32],
+    area: &mut [u32],
+) -> Opening
+    ensures { λ r. ⌜ (openingSays r ≡ openSays n measure limit (now (footprint .entry)) (now (area .entry))) × (now (area .exit) ≡ openLeaves n measure limit (now (footprint .entry)) (now (area .entry))) ⌝ }
+{
+    match open_verdict(n, measure, limit, footprint, area) {
+        Verdict::Sound => {
+            open_area(n, measure, limit, footprint, area);
+            Opening::Opened(Place::open(measure, n, limit))
+        }
+        Verdict::Refuse(c) => Opening::NotOpened(Place::NOWHERE, c),
+    }
+}
+
+// ---- length
+
+// The answer of a place that is sound and has a pick: a length, or 9 with the counts.
+fn report(p: Place) -> Answer
+    requires { ⌜ (p .start .0 ≤ p .taken .0) × (p .taken .0 ≤ 4096) ⌝ }
+    ensures { λ r. ⌜ answerSays r ≡ reportSays (reported p) p ⌝ }
+{
+    let m = p.taken.0;
+    let s = p.start.0;
+    let c = p.compositions;
+    let t = p.tests;
+    if p.passed {
+        return Answer::Length(m + 1 - s, c, t);
+    }
+    if p.measure == 1 {
+        return Answer::Refused(Refusal::NoLength, c, t);
+    }
+    if 1 < s {
+        return Answer::Length(m + 2 - s, c, t);
+    }
+    Answer::Refused(Refusal::NoLength, c, t)
+}
+
+fn length_of(p: Place) -> Answer
+    ensures { λ r. ⌜ answerSays r ≡ lengthSays p ⌝ }
+{
+    if !p.is_sound() {
+        return Answer::Refused(Refusal::BadPlace, Compositions(0), Tests(0));
+    }
+    if p.taken.0 == 0 {
+        return Answer::Refused(Refusal::NoPick, Compositions(0), Tests(0));
+    }
+    report(p)
+}
+
+// The length of the picks so far, with the counts. The place is handed back as it was.
+pub fn length(p: Place) -> Measured
+    ensures { λ r. ⌜ (answerSays (r .answer) ≡ lengthSays p) × (r .place ≡ p) ⌝ }
+{
+    let answer = length_of(p);
+    Measured { place: p, answer: answer }
+}
