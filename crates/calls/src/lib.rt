@@ -104,13 +104,7 @@ fn open_area(n: usize, measure: usize, limit: usize, footprint: &[u32], area: &m
 }
 
 // Opens a walk over n boards.
-pub fn open(
-    n: usize,
-    measure: usize,
-    limit: usize,
-    footprint: &[u32],
-    area: &mut [u32],
-) -> Opening
+pub fn open(n: usize, measure: usize, limit: usize, footprint: &[u32], area: &mut [u32]) -> Opening
     ensures { λ r. ⌜ (openingSays r ≡ openSays n measure limit (now (footprint .entry)) (now (area .entry))) × (now (area .exit) ≡ openLeaves n measure limit (now (footprint .entry)) (now (area .entry))) ⌝ }
 {
     match open_verdict(n, measure, limit, footprint, area) {
@@ -162,5 +156,8 @@ pub fn length(p: Place) -> Measured
     ensures { λ r. ⌜ (answerSays (r .answer) ≡ lengthSays p) × (r .place ≡ p) ⌝ }
 {
     let answer = length_of(p);
-    Measured { place: p, answer: answer }
+    Measured {
+        place: p,
+        answer: answer,
+    }
 }

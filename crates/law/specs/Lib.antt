@@ -9,3 +9,6 @@ pub mod Ladders
 pub mod Costs
 pub mod MinWalk
 pub mod MaxWalk
+pub mod Runs
+pub mod Opened
+pub mod Walks
