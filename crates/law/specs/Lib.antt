@@ -12,3 +12,5 @@ pub mod MaxWalk
 pub mod Runs
 pub mod Opened
 pub mod Walks
+pub mod Correct
+pub mod Measures
