@@ -1,25 +1,28 @@
 -- Verdicts: how code arrives at one, and what one says, read back. Assumes nothing.
 use mathlib.Core.Path.{_≡_, refl, sym, ap, _∙_, subst}
 use mathlib.Core.Bool.{Bool, true, false, _&&_, not}
-use Prim.Native.Nat.{ℕ, _+_, _*_, _≤_, _<_}
-use native.Mathlib.Nat.{mul-le-mul}
+use Prim.Native.Nat.{ℕ, _+_, _*_, _/_, _%_, _≤_, _<_}
+use native.Mathlib.Nat.{mul-le-mul, div-add-mod'}
 use native.Mathlib.Omega.{arith}
 use mathlib.Core.List.{List}
-use lib.Dec.{eqb, eqb→eq, leb, leb→le, ltb, lt→ltb}
+use lib.Dec.{T, eqb, eqb→eq, leb, leb→le, le→leb, ltb, lt→ltb}
 use lib.ListN.{length}
 use Rattle.model.proofs.Logic.{tr, T→≡, eq-refl, and-l, and-r}
-use Rattle.checks.specs.Checks.{clean}
+use Rattle.checks.specs.Checks.{clean, listed}
+use Rattle.checks.specs.Lent.{cleanPicks}
 use Rattle.measures.specs.Kit.{widthOf}
 use Rattle.measures.proofs.Words.{width-links}
-use Rattle.area.specs.Parts.{Has}
+use Rattle.area.specs.Parts.{Has, part}
 use Rattle.area.proofs.Laws.{has}
 use Rattle.area.proofs.Lent.{width-most}
-use Rattle.place.specs.Places.{between}
+use Rattle.place.specs.declared.Place.{Place}
+use Rattle.place.specs.Places.{between, soundPlace}
+use Rattle.place.proofs.Laws.{sound-says}
 use Rattle.model.specs.declared.Refusal.{Refusal}
 use Rattle.model.specs.declared.Refusal.the-variants.{Boards, Measure, Picks, Room, Forbidden, Unlisted, Full, NoPick, NoLength, Shape, Command, Stopped, Operands, Unchanged, Trailing, BadPlace}
 use Rattle.model.specs.Refusals.{number}
-use Rattle.calls.specs.Calls.{stop, needed, openVerdict}
-use Rattle.calls.specs.Fit.{Opens}
+use Rattle.calls.specs.Calls.{stop, needed, openVerdict, pickVerdict, wholeVerdict}
+use Rattle.calls.specs.Fit.{Opens, Takes, Runs}
 
 -- a test that fails leaves it to the rest
 pub stop-step : {x : Bool} (c : ℕ) {v r : ℕ} → x ≡ false → r ≡ v → r ≡ stop x c v
@@ -125,3 +128,63 @@ open-sound n measure limit footprint a e =
 
     eq-of : (x y : ℕ) → eqb x y ≡ true → y ≡ x
     eq-of x y e = sym (eqb→eq x y (tr (sym e) tt))
+
+false-of : {x : Bool} → x ≡ false → T x → ⊥
+false-of e t = tr e t
+
+true-of : (x : Bool) → not x ≡ false → T x
+true-of true e = tt
+true-of false e = tr e tt
+
+-- a check that concerns measure 2 alone
+two-of : (measure : ℕ) (x : Bool) → eqb measure 2 && not x ≡ false → measure ≡ 2 → T x
+two-of measure x e m = true-of x (subst (λ (b : Bool). b && not x ≡ false) (T→≡ (eqb measure 2) (eq-refl m)) e)
+
+-- what a pick relies on
+pub pick-sound : (p : Place) (a w : List ℕ) → pickVerdict p a w ≡ 0 → Takes p a w
+unfolding pickVerdict
+pick-sound p a w e =
+    let s1 = stop-out (not (soundPlace p)) 16 _ (omega arith) e in
+    let s2 = stop-out (leb (p .limit) (p .taken .0)) 7 _ (omega arith) (s1 .1) in
+    let s3 = stop-out (not (eqb (length w) (p .boards))) 10 _ (omega arith) (s2 .1) in
+    let s4 = stop-out (not (clean (p .boards) w)) 5 _ (omega arith) (s3 .1) in
+    let s5 = stop-out (ltb (length a) (needed (p .measure) (p .boards) (p .limit))) 4 _ (omega arith) (s4 .1) in
+    let s6 = stop-out (eqb (p .measure) 2 && not (listed (p .boards) (part (p .boards) a (p .limit + 3)) w)) 6 0 (omega arith) (s5 .1) in
+    let g : p .limit ≤ p .taken .0 → ⊥ = λ h. false-of (s2 .0) (le→leb (p .limit) (p .taken .0) h) in
+    record {
+      sound = sound-says p (holds-by refl (s1 .0));
+      below = omega arith;
+      shape = eqb→eq (length w) (p .boards) (true-of (eqb (length w) (p .boards)) (s3 .0));
+      clean = true-of (clean (p .boards) w) (s4 .0);
+      room = not-short (length a) (needed (p .measure) (p .boards) (p .limit)) (s5 .0);
+      listed = two-of (p .measure) (listed (p .boards) (part (p .boards) a (p .limit + 3)) w) (s6 .0);
+    }
+
+-- what a whole run relies on
+pub whole-sound : (n measure : ℕ) (w a : List ℕ) → wholeVerdict n measure w a ≡ 0 → Runs n measure (length w / n) w a
+unfolding wholeVerdict
+whole-sound n measure w a e =
+    let m = length w / n in
+    let s1 = stop-out (not (between 2 n 32)) 1 _ (omega arith) e in
+    let s2 = stop-out (not (between 1 measure 4)) 2 _ (omega arith) (s1 .1) in
+    let s3 = stop-out (not (eqb (length w % n) 0)) 10 _ (omega arith) (s2 .1) in
+    let s4 = stop-out (eqb (length w / n) 0) 8 _ (omega arith) (s3 .1) in
+    let s5 = stop-out (ltb 4096 (length w / n)) 3 _ (omega arith) (s4 .1) in
+    let s6 = stop-out (ltb (length a) (needed measure n (length w / n))) 4 _ (omega arith) (s5 .1) in
+    let s7 = stop-out (not (cleanPicks n w (length w / n))) 5 0 (omega arith) (s6 .1) in
+    let bn = between-says 2 n 32 (holds-by refl (s1 .0)) in
+    let bm = between-says 1 measure 4 (holds-by refl (s2 .0)) in
+    let z : length w % n ≡ 0 = eqb→eq (length w % n) 0 (true-of (eqb (length w % n) 0) (s3 .0)) in
+    let nz : m ≡ 0 → ⊥ = λ h. false-of (s4 .0) (eq-refl h) in
+    let d = div-add-mod' (length w) n in
+    record {
+      some-boards = bn .0;
+      few = bn .1;
+      measure-low = bm .0;
+      measure-high = bm .1;
+      words = omega arith;
+      some-picks = omega arith;
+      cap = not-short 4096 m (s5 .0);
+      room = not-short (length a) (needed measure n m) (s6 .0);
+      clean = true-of (cleanPicks n w (length w / n)) (s7 .0);
+    }

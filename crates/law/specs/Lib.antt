@@ -14,3 +14,4 @@ pub mod Opened
 pub mod Walks
 pub mod Correct
 pub mod Measures
+pub mod Online

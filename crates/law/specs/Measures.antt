@@ -21,6 +21,7 @@ use Rattle.links.proofs.Tells.{Reaches}
 use Rattle.times.specs.Tells.{TellsTimes}
 use Rattle.measures.specs.Kit.{kit}
 use Rattle.place.specs.declared.Place.{Place}
+use Rattle.place.specs.Places.{Sound}
 use Rattle.steps.specs.Walk.{State, reported}
 use Rattle.calls.specs.Answers.{Outcome, outcome}
 use Rattle.calls.specs.Calls.{needed, reportSays}
@@ -31,7 +32,7 @@ use Rattle.law.specs.MinWalk.{MinAnswer}
 use Rattle.law.specs.MaxWalk.{MaxAnswer}
 use Rattle.law.specs.Runs.{walked}
 use Rattle.law.specs.Opened.{start, listed, opened-list}
-use Rattle.law.specs.Walks.{min-answer, min-tests, min-compositions, max-answer, max-tests-within, max-compositions}
+use Rattle.law.specs.Walks.{min-answer, min-tests, min-compositions, min-sound, max-answer, max-tests-within, max-compositions, max-sound}
 use Rattle.law.specs.Correct.{Passes, IsLength, Right, answered, none-exists, Counted}
 
 -- a report is right where what it says is
@@ -71,8 +72,9 @@ Charge (suc (suc x)) c = Unit {0}
 pub record Told (measure n : ℕ) (footprint : List ℕ) (r : List (List ℕ)) (c k : ℕ) (p : Place) : Type 0 where
   pub right : Right measure (Passes measure n footprint r) k (reportSays (reported p) p)
   pub counted : Counted measure c k (reportSays (reported p) p)
+  pub sound : c ≡ 0 → Sound p
 
-module _ (n limit : ℕ) (n32 : n ≤ 32) (footprint a : List ℕ) (r : List (List ℕ)) (rec : Recording n r) (few : length r ≤ limit) where
+module _ (n limit : ℕ) (n2 : 2 ≤ n) (n32 : n ≤ 32) (cap : limit ≤ 4096) (footprint a : List ℕ) (r : List (List ℕ)) (rec : Recording n r) (few : length r ≤ limit) where
   told-common : (room : needed 1 n limit ≤ length a) (list : _≡_ {A = ℕ} 1 2 → n ≡ length footprint) (k : ℕ) → 1 ≤ k → k ≤ length r
       → Told 1 n footprint r 0 k (walked (kit 1 n) r (start n 1 limit footprint a room list 0) k .place)
   told-common room list k x y =
@@ -88,6 +90,7 @@ module _ (n limit : ℕ) (n32 : n ≤ 32) (footprint a : List ℕ) (r : List (Li
       record {
         right = right-max (PassesCommon r n) k (reported p) p (max-answer n 1 limit footprint a room list r rec few Tells law (PassesCommon r n) test refl (common-down r n (length r)) k x y);
         counted = (omega arith, omega arith);
+        sound = λ z. max-sound n 1 limit footprint a room list r rec few Tells law (PassesCommon r n) test refl (common-down r n (length r)) n2 n32 (omega arith) (omega arith) cap k x y;
       }
 
   -- measures 2 to 4, by the facts that differ
@@ -97,6 +100,7 @@ module _ (n limit : ℕ) (n32 : n ≤ 32) (footprint a : List ℕ) (r : List (Li
       → (c k : ℕ) → 1 ≤ k → k ≤ length r
       → Right (suc (suc x)) Q k (reportSays (reported (walked (kit (suc (suc x)) n) r (start n (suc (suc x)) limit footprint a room list c) k .place)) (walked (kit (suc (suc x)) n) r (start n (suc (suc x)) limit footprint a room list c) k .place))
       × Counted (suc (suc x)) c k (reportSays (reported (walked (kit (suc (suc x)) n) r (start n (suc (suc x)) limit footprint a room list c) k .place)) (walked (kit (suc (suc x)) n) r (start n (suc (suc x)) limit footprint a room list c) k .place))
+      × (c ≡ 0 → suc (suc x) ≤ 4 → Sound (walked (kit (suc (suc x)) n) r (start n (suc (suc x)) limit footprint a room list c) k .place))
   told-min x room list Tells P Q law test up agree c k h y =
       let measure = suc (suc x) in
       let p = walked (kit measure n) r (start n measure limit footprint a room list c) k .place in
@@ -106,6 +110,7 @@ module _ (n limit : ℕ) (n32 : n ≤ 32) (footprint a : List ℕ) (r : List (Li
       (
         right-min x Q k (reported p) p (agree-min (agree-less y agree) (reported p) (min-answer n measure limit footprint a room list r rec few Tells law P test (other x) up c k h y)),
         (omega arith, e .1 ∙ min-tests n measure limit footprint a room list r rec few Tells law P test (other x) up c k y),
+        λ z high. min-sound n measure limit footprint a room list r rec few Tells law P test (other x) up c z n2 n32 (omega arith) high cap k h y,
       )
     where
       other : (x : ℕ) → T (not (eqb (suc (suc x)) 1))
@@ -126,13 +131,13 @@ module _ (n limit : ℕ) (n32 : n ≤ 32) (footprint a : List ℕ) (r : List (Li
       let t = told-min 0 room list (λ i j. Marks n (SomeLink r i j)) (PassesFootprint r footprint) (PassesFootprint r footprint) (footprint-faithful 31 0 n n32 r rec)
       (subst (λ (l : List ℕ). Tested (kit 2 n) l r (λ i j. Marks n (SomeLink r i j)) (PassesFootprint r footprint)) (sym (opened-list n 2 limit footprint a room list refl)) (footprint-tested 31 0 n n32 r rec footprint (fit .0)))
       (footprint-up r footprint (fit .1)) (agree-self (PassesFootprint r footprint) (length r)) c k x y in
-      record { right = t .0; counted = t .1 }
+      record { right = t .0; counted = t .1; sound = λ z. t .2 z (omega arith) }
   told (suc (suc (suc zero))) low high room list c ch fit k x y =
       let t = told-min 1 room list (λ i j. Marks n (Reaches r (atMost 31) i j)) (PassesReach r n (atMost 31)) (PassesReach r n unlimited) (reach-kit 31 0 n n32 r rec)
       (reach-tested 31 0 n n32 r rec (listed n 3 limit footprint a room list)) (reach-up r n (atMost 31) (length r)) (reach-agree n n32 r rec) c k x y in
-      record { right = t .0; counted = t .1 }
+      record { right = t .0; counted = t .1; sound = λ z. t .2 z (omega arith) }
   told (suc (suc (suc (suc zero)))) low high room list c ch fit k x y =
       let t = told-min 2 room list (TellsTimes r n (atMost 31)) (PassesRoundTrip r n (atMost 31) 0) (PassesRoundTrip r n unlimited 0) (round-faithful 31 0 n n32 r rec)
       (round-tested 31 0 n n32 r rec (listed n 4 limit footprint a room list)) (round-upward 31 0 n n32 r rec) (round-agree n n32 r rec 0) c k x y in
-      record { right = t .0; counted = t .1 }
+      record { right = t .0; counted = t .1; sound = λ z. t .2 z (omega arith) }
   told (suc (suc (suc (suc (suc z))))) low high room list c ch fit k x y = absurd (omega arith)

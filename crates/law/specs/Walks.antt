@@ -2,7 +2,7 @@
 -- document 01 says, and its counts keep within the bounds. Minimisation and maximisation, each once; the kit, what its tables tell and what
 -- passes are parameters. Assumes nothing.
 use mathlib.Core.Path.{_≡_, refl, sym, ap, _∙_, subst}
-use mathlib.Core.Logic.{_↔_, ⊎-elim, inl}
+use mathlib.Core.Logic.{_↔_, inl, inr}
 use mathlib.Core.Bool.{Bool, true, false, not}
 use mathlib.Core.Option.{Option}
 use mathlib.Core.List.{List}
@@ -50,6 +50,35 @@ module _ (n measure limit : ℕ) (footprint a : List ℕ) (room : needed measure
   unfolding fresh charged
   at c k = let e = walked-kept K r (start n measure limit footprint a room list c) k in let t = e .taken in record { boards = e .boards; measure = e .measure; limit = e .limit; taken = omega arith }
 
+  -- a place that cause 16 lets through
+  sound-at : (n2 : 2 ≤ n) (n32 : n ≤ 32) (low : 1 ≤ measure) (high : measure ≤ 4) (cap : limit ≤ 4096) (k : ℕ) → 1 ≤ k → k ≤ length r
+      → 1 ≤ st 0 k .place .start .0 → st 0 k .place .start .0 ≤ st 0 k .place .boundary .0 + 1 → st 0 k .place .boundary .0 ≤ st 0 k .place .taken .0 → st 0 k .place .start .0 ≤ st 0 k .place .taken .0
+      → st 0 k .place .compositions .0 ≤ 4 * (k - 1) → st 0 k .place .tests .0 ≤ 2 * k → Sound (st 0 k .place)
+  unfolding fresh
+  sound-at n2 n32 low high cap k x y s1 s2 b1 s3 c1 t1 =
+      let q = at 0 k in
+      let qb = q .boards in
+      let qm = q .measure in
+      let ql = q .limit in
+      let t = q .taken in
+      record {
+        boards-low = omega arith;
+        boards-high = omega arith;
+        measure-low = omega arith;
+        measure-high = omega arith;
+        limit-low = omega arith;
+        limit-high = omega arith;
+        taken-high = omega arith;
+        boundary-high = b1;
+        start-low = s1;
+        start-high = s2;
+        start-taken = λ h. s3;
+        none-failed = λ h. absurd (omega arith);
+        none-passed = λ h. absurd (omega arith);
+        compositions-high = omega arith;
+        tests-high = omega arith;
+      }
+
   -- ---- minimisation
 
   module _ (not-one : T (not (eqb measure 1))) (up : Upward P (length r)) (c : ℕ) where
@@ -94,6 +123,19 @@ module _ (n measure limit : ℕ) (footprint a : List ℕ) (room : needed measure
         let t = at c k .taken in
         omega (arith, min-counts K own win l (length r) (law-of measure n r Tells rec law) P right up c (st c k) (min-after k y) (omega arith))
 
+    -- a place as left is never 16
+    pub min-sound : c ≡ 0 → 2 ≤ n → n ≤ 32 → 1 ≤ measure → measure ≤ 4 → limit ≤ 4096 → (k : ℕ) → 1 ≤ k → k ≤ length r → Sound (st c k .place)
+    min-sound e n2 n32 low high cap k x y =
+        let a = min-after k y in
+        let t = at c k .taken in
+        let cc = min-compositions k x y in
+        let ct = min-tests k y in
+        go (a .ladders .frame .start) (a .ladders .near) (a .ladders .bound) (a .inside (omega arith)) (omega arith) (omega arith)
+      where
+        go : 1 ≤ st c k .place .start .0 → st c k .place .start .0 ≤ st c k .place .boundary .0 + 1 → st c k .place .boundary .0 ≤ st c k .place .taken .0 → st c k .place .start .0 ≤ st c k .place .taken .0
+            → st c k .place .compositions .0 ≤ 4 * (k - 1) → st c k .place .tests .0 ≤ 2 * k → Sound (st c k .place)
+        go = rw e (sound-at n2 n32 low high cap k x y)
+
   -- ---- maximisation
 
   module _ (one : measure ≡ 1) (down : Downward P (length r)) where
@@ -130,3 +172,11 @@ module _ (n measure limit : ℕ) (footprint a : List ℕ) (room : needed measure
     max-compositions k x y =
         let t = at 0 k .taken in
         omega (arith, max-comps K own win l (length r) (law-of measure n r Tells rec law) P right down (st 0 k) (omega arith) (max-after k y))
+
+    pub max-sound : 2 ≤ n → n ≤ 32 → 1 ≤ measure → measure ≤ 4 → limit ≤ 4096 → (k : ℕ) → 1 ≤ k → k ≤ length r → Sound (st 0 k .place)
+    max-sound n2 n32 low high cap k x y = go (max-after k y)
+      where
+        go : Goes K own win l (length r) (law-of measure n r Tells rec law) P right down (st 0 k) → Sound (st 0 k .place)
+        go (inl a) = let t = at 0 k .taken in
+            sound-at n2 n32 low high cap k x y (a .ladders .frame .start) (a .ladders .near) (a .ladders .bound) (a .inside (omega arith)) (max-compositions k x y) (max-tests-within k x y)
+        go (inr a) = sound-at n2 n32 low high cap k x y (a .start) (a .near) (a .bound) (a .inside) (max-compositions k x y) (max-tests-within k x y)

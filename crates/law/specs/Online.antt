@@ -1,0 +1,164 @@
+-- CONDITION 2, pick by pick, over the calls: an opening that is answered by a place, picks that are taken, record and area coming back as the
+-- last call left them. Assumes nothing.
+use mathlib.Core.Path.{_≡_, refl, sym, ap, ap₂, _∙_, subst}
+use mathlib.Core.Logic.{_≢_, _⊎_, inl, inr, ⊎-elim, _↔_}
+use mathlib.Core.Bool.{Bool, true, false, not}
+use mathlib.Core.List.{List, [], _∷_, _++_}
+use Prim.Native.Nat.{ℕ, zero, suc, _+_, _-_, _*_, _≤_, _<_, zero-le}
+use native.Mathlib.Nat.{le-refl, le-of-suc-le-suc}
+use native.Mathlib.Omega.{arith}
+use lib.Dec.{T, eqb, eqb→eq}
+use lib.ListN.{length, getD}
+use Rattle.model.specs.Recording.{link, Clean, Recording, pickAt}
+use Rattle.model.specs.Journey.{val, Open}
+use Rattle.model.proofs.Logic.{T→≡, F→≡, eq-refl}
+use Rattle.model.proofs.Monotone.{Listed}
+use Rattle.checks.specs.Checks.{clean, listed}
+use Rattle.checks.proofs.Clean.{clean-is, listed-is}
+use Rattle.measures.specs.Kit.{Kit, kit, widthOf, either}
+use Rattle.measures.proofs.Words.{width-links}
+use Rattle.area.specs.Parts.{part}
+use Rattle.area.proofs.Laws.{kit-wide, own-wide}
+use Rattle.place.specs.declared.Place.{Place}
+use Rattle.place.specs.Places.{Sound, soundPlace, fresh, nowhere, charged}
+use Rattle.place.proofs.Laws.{sound-in}
+use Rattle.steps.specs.Walk.{State, state, kitOf, stepped, reported}
+use Rattle.calls.specs.Answers.{Outcome, outcome}
+use Rattle.calls.specs.Calls.{needed, openVerdict, openedArea, openSays, openLeaves, pickVerdict, pickState, reportSays, lengthSays}
+use Rattle.calls.specs.Fit.{Opens, Takes}
+use Rattle.calls.proofs.Verdicts.{open-sound, pick-sound}
+use Rattle.law.specs.Frames.{Room, Frame, rise, stepped-frame, Untouched}
+use Rattle.law.specs.Runs.{Kept, stepped-kept, walked, walked-kept}
+use Rattle.law.specs.Opened.{start, opened-list, opened-length}
+use Rattle.law.specs.Correct.{Passes, Right, Counted}
+use Rattle.law.specs.Measures.{Fits, Charge, Told, told}
+
+-- ---- picks through the call, one after the other
+
+-- the state that the call for a pick leaves
+abbrev pub picked : State → List ℕ → State
+picked st w = pickState (st .place) (st .area) w
+
+-- the state after picks ws
+unfoldable pub after : State → List (List ℕ) → State
+after st [] = st
+after st (w ∷ ws) = after (picked st w) ws
+
+-- each of them is taken
+abbrev pub Taken : State → List (List ℕ) → Type 0
+Taken st [] = Unit {0}
+Taken st (w ∷ ws) = (pickVerdict (st .place) (st .area) w ≡ 0) × Taken (picked st w) ws
+
+-- THEOREM, stopping and starting: picks taken one after another are the same as the first part of them and then the rest, gone on with from the
+-- same record and area.
+pub stop-and-start : (st : State) (x y : List (List ℕ)) → after st (x ++ y) ≡ after (after st x) y
+unfolding after
+stop-and-start st [] y = refl
+stop-and-start st (w ∷ ws) y = stop-and-start (picked st w) ws y
+
+pub taken-split : (st : State) (x y : List (List ℕ)) → Taken st (x ++ y) ↔ (Taken st x × Taken (after st x) y)
+unfolding after
+taken-split st [] y = (λ t. (tt, t), λ t. t .1)
+taken-split st (w ∷ ws) y = let e = taken-split (picked st w) ws y in (λ t. let f = e .0 (t .1) in ((t .0, f .0), f .1), λ t. (t .0 .0, e .1 (t .0 .1, t .1)))
+
+-- THEOREM. A pick that no check refuses is taken: it makes one step of the walk. A refused pick leaves place and area as they were.
+pub pick-taken : (st : State) (w : List ℕ) → pickVerdict (st .place) (st .area) w ≡ 0 → picked st w ≡ stepped (kitOf (st .place)) w st
+unfolding pickState
+pick-taken st w e = ap (λ (b : ℕ). either (eqb b 0) (stepped (kitOf (st .place)) w st) st) e
+
+pub pick-refused : (st : State) (w : List ℕ) → (pickVerdict (st .place) (st .area) w ≡ 0 → ⊥) → picked st w ≡ st
+unfolding pickState
+pick-refused st w f = ap (λ (b : Bool). either b (stepped (kitOf (st .place)) w st) st) (F→≡ (eqb (pickVerdict (st .place) (st .area) w) 0) (λ t. f (eqb→eq (pickVerdict (st .place) (st .area) w) 0 t)))
+
+-- ---- what picks that were taken tell
+
+-- the picks w, ws in a row: the first one, and then the others
+walked-front : (K : Kit) (w : List ℕ) (ws : List (List ℕ)) (st : State) (k : ℕ) → walked K (w ∷ ws) st (suc k) ≡ walked K ws (stepped K w st) k
+unfolding walked
+walked-front K w ws st zero = refl
+walked-front K w ws st (suc k) = ap (stepped K (pickAt ws (suc k))) (walked-front K w ws st k)
+
+-- the numbers of a place, and the footprint in its part
+record At (n measure limit : ℕ) (l : List ℕ) (st : State) : Type 0 where
+  at-boards : st .place .boards ≡ n
+  at-measure : st .place .measure ≡ measure
+  at-limit : st .place .limit ≡ limit
+  at-list : part (widthOf measure n) (st .area) (limit + 3) ≡ l
+
+-- a pick that is clean, and under measure 2 has links of the footprint only
+record Good (n measure : ℕ) (l w : List ℕ) : Type 0 where
+  clean : Clean n w
+  listed : measure ≡ 2 → Clean n l → (u v : ℕ) → T (link w u v) → T (link l u v)
+
+abbrev AllGood : ℕ → ℕ → List ℕ → List (List ℕ) → Type 0
+AllGood n measure l [] = Unit {0}
+AllGood n measure l (w ∷ ws) = Good n measure l w × AllGood n measure l ws
+
+module _ (n measure limit : ℕ) (l : List ℕ) where
+  good-pick : (st : State) (w : List ℕ) → At n measure limit l st → pickVerdict (st .place) (st .area) w ≡ 0 → Good n measure l w
+  good-pick st w at e =
+      let t = pick-sound (st .place) (st .area) w e in
+      let k : length w ≡ n = t .shape ∙ at .at-boards in
+      let c : Clean n w = clean-is n w k .0 (subst (λ (x : ℕ). T (clean x w)) (at .at-boards) (t .clean)) in
+      record {
+        clean = c;
+        listed = λ m kl. listed-is n l w kl c .0 (subst (λ (x : List ℕ). T (listed n x w)) (list m)
+            (subst (λ (x : ℕ). T (listed n (part n (st .area) (x + 3)) w)) (at .at-limit) (subst (λ (x : ℕ). T (listed x (part x (st .area) (st .place .limit + 3)) w)) (at .at-boards) (t .listed (at .at-measure ∙ m)))));
+      }
+    where
+      list : measure ≡ 2 → part n (st .area) (limit + 3) ≡ l
+      list m = ap (λ (x : ℕ). part x (st .area) (limit + 3)) (sym (width-links measure n (λ x. omega arith))) ∙ at .at-list
+
+  next-at : (st : State) (w : List ℕ) → At n measure limit l st → pickVerdict (st .place) (st .area) w ≡ 0 → At n measure limit l (stepped (kit measure n) w st)
+  next-at st w at e =
+      let t = pick-sound (st .place) (st .area) w e in
+      let k = stepped-kept (kit measure n) w st in
+      let s = t .sound in
+      let s1 = s .start-high in
+      let s2 = s .boundary-high in
+      let b = t .below in
+      let lm = at .at-limit in
+      let room : (st .place .limit + 4) * widthOf measure n ≤ length (st .area) = subst (λ (x : ℕ). (st .place .limit + 4) * widthOf x n ≤ length (st .area)) (at .at-measure) (subst (λ (x : ℕ). (st .place .limit + 4) * widthOf (st .place .measure) x ≤ length (st .area)) (at .at-boards) (t .room)) in
+      let f = stepped-frame (kit measure n) (kit-wide measure n) w st room (s .start-low) (omega arith) (omega arith) (own-wide 31 measure n (st .place .taken .0 + 1) w (t .shape ∙ at .at-boards)) in
+      record {
+        at-boards = k .boards ∙ at .at-boards;
+        at-measure = k .measure ∙ at .at-measure;
+        at-limit = k .limit ∙ at .at-limit;
+        at-list = f .parts (limit + 3) (omega arith) (record {
+            beside = record { aside = record { side = inr (omega arith); right = λ x. omega arith }; window = λ x. omega arith };
+            own = λ x. omega arith;
+            spare = λ x. omega arith;
+          }) ∙ at .at-list;
+      }
+
+  -- each pick is good, there are few enough, and together they are a walk
+  record Walk (st : State) (ws : List (List ℕ)) : Type 0 where
+    good : AllGood n measure l ws
+    few : st .place .taken .0 ≤ limit → st .place .taken .0 + length ws ≤ limit
+    walk : after st ws ≡ walked (kit measure n) ws st (length ws)
+
+  walks : (ws : List (List ℕ)) (st : State) → At n measure limit l st → Taken st ws → Walk st ws
+  unfolding after walked
+  walks [] st at t = record { good = tt; few = λ h. omega arith; walk = refl }
+  walks (w ∷ ws) st at t =
+      let e : picked st w ≡ stepped (kit measure n) w st = pick-taken st w (t .0) ∙ ap₂ (λ (x y : ℕ). stepped (kit x y) w st) (at .at-measure) (at .at-boards) in
+      let k = stepped-kept (kit measure n) w st in
+      let k1 = k .taken in
+      let b = pick-sound (st .place) (st .area) w (t .0) .below in
+      let lm = at .at-limit in
+      let r = walks ws (stepped (kit measure n) w st) (next-at st w at (t .0)) (subst (λ (x : State). Taken x ws) e (t .1)) in
+      record {
+        good = (good-pick st w at (t .0), r .good);
+        few = λ h. let f = r .few (omega arith) in omega arith;
+        walk = ap (λ (x : State). after x ws) e ∙ r .walk ∙ sym (walked-front (kit measure n) w ws st (length ws));
+      }
+
+good-recording : (n measure : ℕ) (l : List ℕ) (ws : List (List ℕ)) → AllGood n measure l ws → Recording n ws
+good-recording n measure l [] g = tt
+good-recording n measure l (w ∷ ws) g = (g .0 .clean, good-recording n measure l ws (g .1))
+
+good-listed : (n measure : ℕ) (l : List ℕ) (ws : List (List ℕ)) → measure ≡ 2 → Clean n l → AllGood n measure l ws → Listed ws l
+good-listed n measure l [] m k g t u v a b o = absurd (omega arith)
+good-listed n measure l (w ∷ ws) m k g zero u v a b o = absurd (omega arith)
+good-listed n measure l (w ∷ ws) m k g (suc zero) u v a b o = g .0 .listed m k u v o
+good-listed n measure l (w ∷ ws) m k g (suc (suc t)) u v a b o = good-listed n measure l ws m k (g .1) (suc t) u v (omega arith) (le-of-suc-le-suc b) o
