@@ -103,32 +103,6 @@ footprint-fills measure n e words m q l = q ∙ width-links measure n (λ x. ome
 pub not-short : (x y : ℕ) → ltb x y ≡ false → y ≤ x
 not-short x y e = let g : x < y → ⊥ = λ h. tr e (lt→ltb x y h) in omega arith
 
--- what an opening relies on
-pub open-sound : (n measure limit : ℕ) (footprint a : List ℕ) → openVerdict n measure limit footprint a ≡ 0 → Opens n measure limit footprint a × ((1 ≤ measure) × (measure ≤ 4))
-unfolding openVerdict
-open-sound n measure limit footprint a e =
-    let s1 = stop-out (not (between 2 n 32)) 1 _ (omega arith) e in
-    let s2 = stop-out (not (between 1 measure 4)) 2 _ (omega arith) (s1 .1) in
-    let s3 = stop-out (not (between 1 limit 4096)) 3 _ (omega arith) (s2 .1) in
-    let s4 = stop-out (eqb measure 2 && not (eqb (length footprint) n)) 10 _ (omega arith) (s3 .1) in
-    let s5 = stop-out (eqb measure 2 && not (clean n footprint)) 5 _ (omega arith) (s4 .1) in
-    let s6 = stop-out (ltb (length a) (needed measure n limit)) 4 0 (omega arith) (s5 .1) in
-    let b = between-says 1 measure 4 (holds-by refl (s2 .0)) in (
-      record {
-        few = between-says 2 n 32 (holds-by refl (s1 .0)) .1;
-        cap = between-says 1 limit 4096 (holds-by refl (s3 .0)) .1;
-        room = not-short (length a) (needed measure n limit) (s6 .0);
-        list = λ m. eq-of (length footprint) n (holds-by refl (subst (λ (x : Bool). x && not (eqb (length footprint) n) ≡ false) (two m) (s4 .0)));
-      },
-      (b .0, b .1),
-    )
-  where
-    two : measure ≡ 2 → eqb measure 2 ≡ true
-    two m = T→≡ (eqb measure 2) (eq-refl m)
-
-    eq-of : (x y : ℕ) → eqb x y ≡ true → y ≡ x
-    eq-of x y e = sym (eqb→eq x y (tr (sym e) tt))
-
 false-of : {x : Bool} → x ≡ false → T x → ⊥
 false-of e t = tr e t
 
@@ -139,6 +113,31 @@ true-of false e = tr e tt
 -- a check that concerns measure 2 alone
 two-of : (measure : ℕ) (x : Bool) → eqb measure 2 && not x ≡ false → measure ≡ 2 → T x
 two-of measure x e m = true-of x (subst (λ (b : Bool). b && not x ≡ false) (T→≡ (eqb measure 2) (eq-refl m)) e)
+
+-- what an opening relies on
+pub open-sound : (n measure limit : ℕ) (footprint a : List ℕ) → openVerdict n measure limit footprint a ≡ 0 → Opens n measure limit footprint a
+unfolding openVerdict
+open-sound n measure limit footprint a e =
+    let s1 = stop-out (not (between 2 n 32)) 1 _ (omega arith) e in
+    let s2 = stop-out (not (between 1 measure 4)) 2 _ (omega arith) (s1 .1) in
+    let s3 = stop-out (not (between 1 limit 4096)) 3 _ (omega arith) (s2 .1) in
+    let s4 = stop-out (eqb measure 2 && not (eqb (length footprint) n)) 10 _ (omega arith) (s3 .1) in
+    let s5 = stop-out (eqb measure 2 && not (clean n footprint)) 5 _ (omega arith) (s4 .1) in
+    let s6 = stop-out (ltb (length a) (needed measure n limit)) 4 0 (omega arith) (s5 .1) in
+    let bn = between-says 2 n 32 (holds-by refl (s1 .0)) in
+    let bm = between-says 1 measure 4 (holds-by refl (s2 .0)) in
+    let bl = between-says 1 limit 4096 (holds-by refl (s3 .0)) in
+    record {
+      some-boards = bn .0;
+      few = bn .1;
+      measure-low = bm .0;
+      measure-high = bm .1;
+      some-picks = bl .0;
+      cap = bl .1;
+      room = not-short (length a) (needed measure n limit) (s6 .0);
+      list = λ m. sym (eqb→eq (length footprint) n (two-of measure (eqb (length footprint) n) (s4 .0) m));
+      clean = two-of measure (clean n footprint) (s5 .0);
+    }
 
 -- what a pick relies on
 pub pick-sound : (p : Place) (a w : List ℕ) → pickVerdict p a w ≡ 0 → Takes p a w

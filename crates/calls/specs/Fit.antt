@@ -13,10 +13,15 @@ use Rattle.calls.specs.Calls.{needed}
 
 -- of an opening
 pub record Opens (n measure limit : ℕ) (footprint a : List ℕ) : Type 0 where
+  pub some-boards : 2 ≤ n
   pub few : n ≤ 32
+  pub measure-low : 1 ≤ measure
+  pub measure-high : measure ≤ 4
+  pub some-picks : 1 ≤ limit
   pub cap : limit ≤ 4096
   pub room : needed measure n limit ≤ length a
   pub list : measure ≡ 2 → n ≡ length footprint
+  pub clean : measure ≡ 2 → T (clean n footprint)
 
 -- of a pick
 pub record Takes (p : Place) (a w : List ℕ) : Type 0 where

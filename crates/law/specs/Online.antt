@@ -162,3 +162,71 @@ good-listed n measure l [] m k g t u v a b o = absurd (omega arith)
 good-listed n measure l (w ∷ ws) m k g zero u v a b o = absurd (omega arith)
 good-listed n measure l (w ∷ ws) m k g (suc zero) u v a b o = g .0 .listed m k u v o
 good-listed n measure l (w ∷ ws) m k g (suc (suc t)) u v a b o = good-listed n measure l ws m k (g .1) (suc t) u v (omega arith) (le-of-suc-le-suc b) o
+
+-- ---- THE THEOREM
+
+-- the state that an opening hands over
+abbrev pub opened : ℕ → ℕ → ℕ → List ℕ → List ℕ → State
+opened n measure limit footprint a = state (openSays n measure limit footprint a .place) (openLeaves n measure limit footprint a)
+
+opened-start : (n measure limit : ℕ) (footprint a : List ℕ) (e : openVerdict n measure limit footprint a ≡ 0) (room : needed measure n limit ≤ length a) (list : measure ≡ 2 → n ≡ length footprint)
+    → opened n measure limit footprint a ≡ start n measure limit footprint a room list 0
+unfolding openSays openLeaves fresh charged
+opened-start n measure limit footprint a e room list =
+    ap (λ (b : ℕ). state (either (eqb b 0) (fresh measure n limit) nowhere) (either (eqb b 0) (openedArea n measure limit footprint a) a)) e
+
+-- what holds after the picks ws were taken
+pub record Walked (n measure limit : ℕ) (footprint : List ℕ) (ws : List (List ℕ)) (p : Place) : Type 0 where
+  -- they are a recording over n boards, within the limit; under measure 2 the footprint has their links
+  pub recorded : Recording n ws
+  pub within : length ws ≤ limit
+  pub fits : Fits measure footprint ws n
+  -- the place is never 16
+  pub sound : Sound p
+  -- the length call answers the length over all windows of the picks so far, or 9 where there is none, with counts within the bounds
+  pub right : Right measure (Passes measure n footprint ws) (length ws) (lengthSays p)
+  pub counted : Counted measure 0 (length ws) (lengthSays p)
+
+length-reports : (p : Place) → Sound p → 1 ≤ p .taken .0 → lengthSays p ≡ reportSays (reported p) p
+unfolding lengthSays
+length-reports p s h =
+    ap₂ (λ (x y : Bool). either (not x) (outcome 16 0 0 0) (either y (outcome 8 0 0 0) (reportSays (reported p) p))) (sound-in p s) (F→≡ (eqb (p .taken .0) 0) (λ t. let z = eqb→eq (p .taken .0) 0 t in omega arith))
+
+fits-of : (measure n : ℕ) (l footprint : List ℕ) (ws : List (List ℕ)) → (measure ≡ 2 → l ≡ footprint) → (measure ≡ 2 → Clean n footprint) → AllGood n measure l ws → Fits measure footprint ws n
+fits-of zero n l footprint ws e k g = tt
+fits-of (suc zero) n l footprint ws e k g = tt
+fits-of (suc (suc zero)) n l footprint ws e k g = (k refl, subst (Listed ws) (e refl) (good-listed n 2 l ws refl (subst (Clean n) (sym (e refl)) (k refl)) g))
+fits-of (suc (suc (suc x))) n l footprint ws e k g = tt
+
+pub no-charge : (measure : ℕ) → Charge measure 0
+no-charge zero = tt
+no-charge (suc zero) = refl
+no-charge (suc (suc x)) = tt
+
+-- CONDITION 2, pick by pick. For every opening that is answered by a place and every sequence of picks that are taken.
+pub online : (n measure limit : ℕ) (footprint a : List ℕ) → openVerdict n measure limit footprint a ≡ 0
+    → (ws : List (List ℕ)) → Taken (opened n measure limit footprint a) ws → 1 ≤ length ws
+    → Walked n measure limit footprint ws (after (opened n measure limit footprint a) ws .place)
+unfolding fresh charged
+online n measure limit footprint a e ws t some-pick =
+    let f = open-sound n measure limit footprint a e in
+    let s0 = start n measure limit footprint a (f .room) (f .list) 0 in
+    let q : opened n measure limit footprint a ≡ s0 = opened-start n measure limit footprint a e (f .room) (f .list) in
+    let l = part (widthOf measure n) (openedArea n measure limit footprint a) (limit + 3) in
+    let w = walks n measure limit l ws s0 (record { at-boards = refl; at-measure = refl; at-limit = refl; at-list = refl }) (subst (λ (x : State). Taken x ws) q t) in
+    let rec = good-recording n measure l ws (w .good) in
+    let few : length ws ≤ limit = omega (arith, w .few zero-le) in
+    let fit = fits-of measure n l footprint ws (opened-list n measure limit footprint a (f .room) (f .list)) (λ m. clean-is n footprint (sym (f .list m)) .0 (f .clean m)) (w .good) in
+    let d = told n limit (f .some-boards) (f .few) (f .cap) footprint a ws rec few measure (f .measure-low) (f .measure-high) (f .room) (f .list) 0 (no-charge measure) fit (length ws) some-pick (le-refl (length ws)) in
+    let p = walked (kit measure n) ws s0 (length ws) .place in
+    let m = walked-kept (kit measure n) ws s0 (length ws) .taken in
+    let sound = d .sound refl in
+    let z = length-reports p sound (omega arith) in
+    subst (λ (x : State). Walked n measure limit footprint ws (x .place)) (sym (ap (λ (x : State). after x ws) q ∙ w .walk)) (record {
+      recorded = rec;
+      within = few;
+      fits = fit;
+      sound = sound;
+      right = subst (Right measure (Passes measure n footprint ws) (length ws)) (sym z) (d .right);
+      counted = subst (Counted measure 0 (length ws)) (sym z) (d .counted);
+    })

@@ -16,10 +16,10 @@ enum-told : tie.Need-enum-told
 enum-told c = search needs
 
 open-area-requires : tie.Need-open-area-requires
-open-area-requires c κs = open-sound _ _ _ _ _ (sym (c .before .before .before .open-verdict .ensures) ∙ ap verdictSays (c .before .enum-told .given .1)) .0
+open-area-requires c κs = open-sound _ _ _ _ _ (sym (c .before .before .before .open-verdict .ensures) ∙ ap verdictSays (c .before .enum-told .given .1))
 
 open-requires : tie.Need-open-requires
-open-requires c κs = open-sound _ _ _ _ _ (sym (c .before .before .before .before .before .before .open-verdict .ensures) ∙ ap verdictSays (c .before .before .before .before .enum-told .given .1)) .1
+open-requires c κs = let o = open-sound _ _ _ _ _ (sym (c .before .before .before .before .before .before .open-verdict .ensures) ∙ ap verdictSays (c .before .before .before .before .enum-told .given .1)) in (o .measure-low, o .measure-high)
 
 enum-known-c : tie.Need-enum-known-c
 enum-known-c c = search needs
