@@ -15,3 +15,4 @@ pub mod Walks
 pub mod Correct
 pub mod Measures
 pub mod Online
+pub mod Whole

@@ -106,8 +106,7 @@ module _ (n limit : ℕ) (n2 : 2 ≤ n) (n32 : n ≤ 32) (cap : limit ≤ 4096) 
       let p = walked (kit measure n) r (start n measure limit footprint a room list c) k .place in
       let e = counts-of (reported p) p in
       let e0 = e .0 in
-      let cc = min-compositions n measure limit footprint a room list r rec few Tells law P test (other x) up c k h y in
-      (
+      let cc = min-compositions n measure limit footprint a room list r rec few Tells law P test (other x) up c k h y in (
         right-min x Q k (reported p) p (agree-min (agree-less y agree) (reported p) (min-answer n measure limit footprint a room list r rec few Tells law P test (other x) up c k h y)),
         (omega arith, e .1 ∙ min-tests n measure limit footprint a room list r rec few Tells law P test (other x) up c k y),
         λ z high. min-sound n measure limit footprint a room list r rec few Tells law P test (other x) up c z n2 n32 (omega arith) high cap k h y,

@@ -125,10 +125,10 @@ module _ (n measure limit : ℕ) (l : List ℕ) where
         at-measure = k .measure ∙ at .at-measure;
         at-limit = k .limit ∙ at .at-limit;
         at-list = f .parts (limit + 3) (omega arith) (record {
-            beside = record { aside = record { side = inr (omega arith); right = λ x. omega arith }; window = λ x. omega arith };
-            own = λ x. omega arith;
-            spare = λ x. omega arith;
-          }) ∙ at .at-list;
+          beside = record { aside = record { side = inr (omega arith); right = λ x. omega arith }; window = λ x. omega arith };
+          own = λ x. omega arith;
+          spare = λ x. omega arith;
+        }) ∙ at .at-list;
       }
 
   -- each pick is good, there are few enough, and together they are a walk

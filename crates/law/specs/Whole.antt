@@ -1,0 +1,165 @@
+-- CONDITION 2 for whole runs, over the call: any recording lent as words, any area that is long enough, whatever it held. Under measure 2 the
+-- union of all picks is the footprint, at m - 1 compositions more. Assumes nothing.
+use mathlib.Core.Path.{_≡_, refl, sym, ap, _∙_, subst}
+use mathlib.Core.Logic.{_↔_, _⊎_, inl, inr, ⊎-elim}
+use mathlib.Core.Bool.{Bool, true, false, _||_}
+use mathlib.Core.List.{List}
+use Prim.Native.Nat.{ℕ, zero, suc, _+_, _-_, _*_, _/_, _≤_, _<_}
+use native.Mathlib.Nat.{le-refl, eq-or-lt-of-le}
+use native.Mathlib.Omega.{arith}
+use lib.Dec.{T, eqb, eqb→eq}
+use lib.ListN.{length}
+use Rattle.model.specs.Recording.{link, Words, Clean, Recording, pickAt}
+use Rattle.model.specs.Journey.{Open}
+use Rattle.model.specs.Measures.{SomeLink, PassesFootprint}
+use Rattle.model.specs.Length.{NoLength}
+use Rattle.model.proofs.Logic.{tr, F→≡, or-l, or-r, or-cases}
+use Rattle.model.proofs.Links.{link-from}
+use Rattle.model.proofs.Windows.{pick-at}
+use Rattle.model.proofs.Monotone.{Listed}
+use Rattle.lists.proofs.Tab.{length-tab, length-zeros}
+use Rattle.links.specs.Tables.{union, eitherRow}
+use Rattle.links.proofs.Bits.{zeros-none, zeros-clean, union-link, union-clean}
+use Rattle.checks.specs.Lent.{lentPick, lentPicks, cleanPicks}
+use Rattle.checks.proofs.Lent.{length-lent, lent-recording, lent-at}
+use Rattle.measures.specs.Kit.{kit, either}
+use Rattle.area.specs.Parts.{zeroed}
+use Rattle.place.specs.declared.Place.{Place}
+use Rattle.place.specs.Places.{fresh, charged}
+use Rattle.steps.specs.Walk.{State, stepped, reported}
+use Rattle.calls.specs.Answers.{Outcome, outcome}
+use Rattle.calls.specs.Calls.{needed, wholeVerdict, unions, wholeStart, wholeAfter, wholeReport, wholeSays, wholeLeaves, reportSays}
+use Rattle.calls.specs.Fit.{Runs}
+use Rattle.calls.proofs.Verdicts.{whole-sound}
+use Rattle.law.specs.Runs.{walked}
+use Rattle.law.specs.Opened.{start}
+use Rattle.law.specs.Correct.{Passes, IsLength, Right, answered, none-exists, Counted}
+use Rattle.law.specs.Measures.{Fits, Charge, Told, told}
+
+-- the picks lent as words, m of them
+abbrev pub recording : ℕ → List ℕ → List (List ℕ)
+recording n w = lentPicks n w (length w / n)
+
+-- what a whole run charges before pick 1
+abbrev pub listCost : ℕ → ℕ → ℕ
+listCost measure m = either (eqb measure 2) (m - 1) 0
+
+-- ---- the union of all picks
+
+length-unions : (n : ℕ) (w : List ℕ) (k : ℕ) → length (unions n w k) ≡ n
+unfolding unions union
+length-unions n w zero = length-zeros n
+length-unions n w (suc k) = length-tab (eitherRow (unions n w k) (lentPick n w k)) n
+
+module _ (n : ℕ) (w : List ℕ) (m : ℕ) (room : m * n ≤ length w) (ok : T (cleanPicks n w m)) where
+  abbrev r : List (List ℕ)
+  r = lentPicks n w m
+
+  rec : Recording n r
+  rec = lent-recording n w m room ok m (le-refl m)
+
+  pick-clean : (k : ℕ) → k < m → Clean n (lentPick n w k)
+  pick-clean k h = subst (Clean n) (lent-at n w m k h) (pick-at n r rec (suc k) (omega arith) (omega (arith, length-lent n w m)))
+
+  unions-clean : (k : ℕ) → k ≤ m → Clean n (unions n w k)
+  unfolding unions
+  unions-clean zero h = zeros-clean n
+  unions-clean (suc k) h = union-clean n (unions n w k) (lentPick n w k) (unions-clean k (omega arith)) (pick-clean k h)
+
+  -- the union of the first k picks has exactly the links open at one of them
+  unions-links : (k : ℕ) → k ≤ m → (u v : ℕ) → T (link (unions n w k) u v) ↔ SomeLink r 1 k u v
+  unfolding unions
+  unions-links zero h u v = (λ t. absurd (zeros-none n u v t), λ f. let x : 1 ≤ f .0 = f .1 in let y : f .0 ≤ 0 = f .2 in absurd (omega arith))
+  unions-links (suc k) h u v =
+      let p = lentPick n w k in
+      let q = unions n w k in
+      let ih = unions-links k (omega arith) u v in
+      let e = lent-at n w m k h in (
+        λ t. let hu = link-from n (union n q p) (unions-clean-step k h) u v t in
+            ⊎-elim (λ (x : T (link q u v)). let f = ih .0 x in let y : f .0 ≤ k = f .2 in (f .0, f .1, omega arith, f .3))
+            (λ (x : T (link p u v)). (suc k, omega arith, le-refl (suc k), subst (λ (z : List ℕ). T (link z u v)) (sym e) x)) (or-cases (link q u v) (link p u v) (tr (union-link n q p u v hu) t)),
+        λ f. let x : 1 ≤ f .0 = f .1 in
+            let y : f .0 ≤ suc k = f .2 in
+            let c = pick-at n r rec (f .0) x (omega (arith, length-lent n w m)) in
+            let hu = link-from n (pickAt r (f .0)) (c .words) u v (f .3) in
+            tr (sym (union-link n q p u v hu)) (⊎-elim (λ (z : f .0 ≡ suc k). or-r (link q u v) (link p u v) (subst (λ (y : List ℕ). T (link y u v)) e (subst (λ (y : ℕ). Open r y u v) z (f .3))))
+            (λ (z : f .0 < suc k). or-l (link q u v) (link p u v) (ih .1 (f .0, x, omega arith, f .3))) (eq-or-lt-of-le y)),
+      )
+    where
+      unions-clean-step : (k : ℕ) → suc k ≤ m → Words n (union n (unions n w k) (lentPick n w k))
+      unions-clean-step k h = union-clean n (unions n w k) (lentPick n w k) (unions-clean k (omega arith)) (pick-clean k h) .words
+
+  pub unions-listed : Listed r (unions n w m)
+  unions-listed t u v a b o = unions-links m (le-refl m) u v .1 (t, a, omega (arith, length-lent n w m), o)
+
+  whole-fits : (measure : ℕ) → Fits measure (unions n w m) r n
+  whole-fits zero = tt
+  whole-fits (suc zero) = tt
+  whole-fits (suc (suc zero)) = (unions-clean m (le-refl m), unions-listed)
+  whole-fits (suc (suc (suc x))) = tt
+
+-- ---- THE THEOREM
+
+whole-charge : (measure m : ℕ) → Charge measure (listCost measure m)
+whole-charge zero m = tt
+whole-charge (suc zero) m = refl
+whole-charge (suc (suc x)) m = tt
+
+-- the run is a walk over the recording
+whole-walks : (n measure : ℕ) (w a : List ℕ) (room : needed measure n (length w / n) ≤ length a) (list : measure ≡ 2 → n ≡ length (unions n w (length w / n))) (k : ℕ) → k ≤ length w / n
+    → wholeAfter n measure w a k ≡ walked (kit measure n) (recording n w) (start n measure (length w / n) (unions n w (length w / n)) a room list (listCost measure (length w / n))) k
+unfolding wholeAfter wholeStart walked
+whole-walks n measure w a room list zero h = refl
+whole-walks n measure w a room list (suc k) h =
+    ap (stepped (kit measure n) (lentPick n w k)) (whole-walks n measure w a room list k (omega arith))
+    ∙ ap (λ (p : List ℕ). stepped (kit measure n) p (walked (kit measure n) (recording n w) (start n measure (length w / n) (unions n w (length w / n)) a room list (listCost measure (length w / n))) k)) (sym (lent-at n w (length w / n) k h))
+
+-- what holds of a whole run that no cause refuses
+pub record Ran (n measure : ℕ) (w : List ℕ) (o : Outcome) : Type 0 where
+  pub recorded : Recording n (recording n w)
+  pub picks : length (recording n w) ≡ length w / n
+  -- under measure 2 the footprint has exactly the links open at some pick
+  pub footprint : (u v : ℕ) → T (link (unions n w (length w / n)) u v) ↔ SomeLink (recording n w) 1 (length w / n) u v
+  pub right : Right measure (Passes measure n (unions n w (length w / n)) (recording n w)) (length w / n) o
+  pub counted : Counted measure (listCost measure (length w / n)) (length w / n) o
+
+-- CONDITION 2 for whole runs: in any area, dirty or not, that no cause refuses.
+pub whole : (n measure : ℕ) (w a : List ℕ) → wholeVerdict n measure w a ≡ 0 → Ran n measure w (wholeSays n measure w a)
+unfolding wholeSays wholeReport
+whole n measure w a e =
+    let m = length w / n in
+    let f = whole-sound n measure w a e in
+    let words : m * n ≤ length w = let z = f .words in omega arith in
+    let list : measure ≡ 2 → n ≡ length (unions n w m) = λ x. sym (length-unions n w m) in
+    let k = length-lent n w m in
+    let d = told n m (f .some-boards) (f .few) (f .cap) (unions n w m) a (recording n w) (rec n w m words (f .clean)) (omega arith) measure (f .measure-low) (f .measure-high) (f .room) list (listCost measure m)
+    (whole-charge measure m) (whole-fits n w m words (f .clean) measure) m (f .some-picks) (omega arith) in
+    let q = whole-walks n measure w a (f .room) list m (le-refl m) in
+    let z : wholeSays n measure w a ≡ wholeReport n measure w a = ap (λ (b : ℕ). either (eqb b 0) (wholeReport n measure w a) (outcome b 0 0 0)) e in
+    record {
+      recorded = rec n w m words (f .clean);
+      picks = k;
+      footprint = unions-links n w m words (f .clean) m (le-refl m);
+      right = subst (Right measure (Passes measure n (unions n w m) (recording n w)) m) (sym (z ∙ report q)) (d .right);
+      counted = subst (Counted measure (listCost measure m) m) (sym (z ∙ report q)) (d .counted);
+    }
+  where
+    report : {x y : State} → x ≡ y → reportSays (reported (x .place)) (x .place) ≡ reportSays (reported (y .place)) (y .place)
+    report e = ap (λ (x : State). reportSays (reported (x .place)) (x .place)) e
+
+-- Under measure 2 a whole run is never refused by 9: the window of all picks passes.
+pub whole-footprint : (n : ℕ) (w a : List ℕ) → wholeVerdict n 2 w a ≡ 0 → wholeSays n 2 w a .refusal ≡ 0
+whole-footprint n w a e = let d = whole n 2 w a e in go (d .right) d
+  where
+    go : Right 2 (PassesFootprint (recording n w) (unions n w (length w / n))) (length w / n) (wholeSays n 2 w a) → Ran n 2 w (wholeSays n 2 w a) → wholeSays n 2 w a .refusal ≡ 0
+    go (answered x y) d = x
+    go (none-exists x f) d =
+        let m = length w / n in
+        let s = whole-sound n 2 w a e .some-picks in
+        absurd (f m s (le-refl m) (λ i j p q z. let i1 : 1 ≡ i = omega arith in let jm : m ≡ j = omega arith in
+        subst (λ (x : ℕ). PassesFootprint (recording n w) (unions n w m) x j) i1 (subst (λ (x : ℕ). PassesFootprint (recording n w) (unions n w m) 1 x) jm (λ u v. (d .footprint u v .1, d .footprint u v .0)))))
+
+-- A refused whole run leaves the area as it was; one that runs leaves the needed words zero and the others as they were (`wholeLeaves`).
+pub whole-refused : (n measure : ℕ) (w a : List ℕ) → (wholeVerdict n measure w a ≡ 0 → ⊥) → wholeLeaves n measure w a ≡ a
+unfolding wholeLeaves
+whole-refused n measure w a f = ap (λ (b : Bool). either b (zeroed (needed measure n (length w / n)) a) a) (F→≡ (eqb (wholeVerdict n measure w a) 0) (λ t. f (eqb→eq (wholeVerdict n measure w a) 0 t)))
