@@ -106,7 +106,7 @@ not-short x y e = let g : x < y → ⊥ = λ h. tr e (lt→ltb x y h) in omega a
 false-of : {x : Bool} → x ≡ false → T x → ⊥
 false-of e t = tr e t
 
-true-of : (x : Bool) → not x ≡ false → T x
+pub true-of : (x : Bool) → not x ≡ false → T x
 true-of true e = tt
 true-of false e = tr e tt
 

@@ -1,0 +1,2 @@
+-- Laws of the call for the table.
+pub mod Picks

@@ -1,0 +1,92 @@
+-- The table of reach, pick by pick, and what a verdict says. Assumes nothing.
+use mathlib.Core.Path.{_≡_, refl, sym, ap, ap₂, _∙_}
+use mathlib.Core.Bool.{Bool, not}
+use mathlib.Core.List.{List, [], _∷_, _++_}
+use Prim.Native.Nat.{ℕ, zero, suc, _+_, _-_, _*_, _/_, _%_, _≤_, _<_}
+use native.Mathlib.Nat.{sub-zero, div-add-mod', zero-mul, one-mul, mul-le-mul-right}
+use native.Mathlib.Numerals.{add-one}
+use native.Mathlib.Omega.{arith}
+use lib.Dec.{T, eqb, eqb→eq, ltb}
+use lib.ListN.{length, take, drop}
+use lib.Seq.{length-take-le}
+use Rattle.model.proofs.Logic.{tr, eq-refl}
+use Rattle.links.specs.Tables.{compose, composeRow, within}
+use Rattle.links.specs.Composed.{composedFrom, composed, reach}
+use Rattle.links.proofs.Closure.{length-within}
+use Rattle.lists.specs.Tab.{padded}
+use Rattle.lists.proofs.Tab.{take-padded}
+use Rattle.checks.proofs.Lent.{length-lent}
+use Rattle.checks.specs.Lent.{lentPick, lentPicks, cleanPicks}
+use Rattle.place.specs.Places.{between}
+use Rattle.calls.specs.Calls.{stop}
+use Rattle.calls.proofs.Verdicts.{stop-out, between-says, holds-by, true-of, not-short}
+use Rattle.reach.specs.Tables.{tableVerdict}
+
+from-snoc : (n h i : ℕ) (t : List ℕ) (ps : List (List ℕ)) (p : List ℕ)
+    → composedFrom (compose n) (λ i. within n h) i t (ps ++ (p ∷ [])) ≡ compose n (composedFrom (compose n) (λ i. within n h) i t ps) (within n h p)
+unfolding composedFrom
+from-snoc n h i t [] p = refl
+from-snoc n h i t (q ∷ ps) p = from-snoc n h (suc i) (compose n t (within n h q)) ps p
+
+-- one pick more
+pub reach-snoc : (n h : ℕ) (r : List (List ℕ)) (p : List ℕ) → 1 ≤ length r → reach n h (r ++ (p ∷ [])) ≡ compose n (reach n h r) (within n h p)
+unfolding reach composed
+reach-snoc n h [] p l = absurd (omega arith)
+reach-snoc n h (q ∷ r) p l = from-snoc n h 2 (within n h q) r p
+
+-- the first pick
+pub reach-first : (n h : ℕ) (w : List ℕ) → reach n h (lentPicks n w 1) ≡ within n h (lentPick n w 0)
+unfolding reach composed composedFrom lentPicks
+reach-first n h w = refl
+
+pub first-lent : (n : ℕ) (w : List ℕ) → take (n - 0) w ≡ lentPick n w 0
+unfolding lentPick
+first-lent n w = ap₂ (λ (x y : ℕ). take x (drop y w)) (sub-zero n) (sym (zero-mul n))
+
+-- what a table that is written relies on
+pub record Tables (n m : ℕ) (w out : List ℕ) : Type 0 where
+  pub some-boards : 2 ≤ n
+  pub few : n ≤ 32
+  pub words : length w ≡ m * n
+  pub some-picks : 1 ≤ m
+  pub cap : m ≤ 4096
+  pub room : n ≤ length out
+  pub clean : T (cleanPicks n w m)
+
+pub table-sound : (n : ℕ) (w out : List ℕ) → tableVerdict n w out ≡ 0 → Tables n (length w / n) w out
+unfolding tableVerdict
+table-sound n w out e =
+    let m = length w / n in
+    let s1 = stop-out (not (between 2 n 32)) 1 _ (omega arith) e in
+    let s2 = stop-out (not (eqb (length w % n) 0)) 10 _ (omega arith) (s1 .1) in
+    let s3 = stop-out (eqb (length w / n) 0) 8 _ (omega arith) (s2 .1) in
+    let s4 = stop-out (ltb 4096 (length w / n)) 3 _ (omega arith) (s3 .1) in
+    let s5 = stop-out (ltb (length out) n) 4 _ (omega arith) (s4 .1) in
+    let s6 = stop-out (not (cleanPicks n w (length w / n))) 5 0 (omega arith) (s5 .1) in
+    let b = between-says 2 n 32 (holds-by refl (s1 .0)) in
+    let z : length w % n ≡ 0 = eqb→eq (length w % n) 0 (true-of (eqb (length w % n) 0) (s2 .0)) in
+    let nz : m ≡ 0 → ⊥ = λ h. tr (s3 .0) (eq-refl h) in
+    let d = div-add-mod' (length w) n in
+    record {
+      some-boards = b .0;
+      few = b .1;
+      words = omega arith;
+      some-picks = omega arith;
+      cap = not-short 4096 m (s4 .0);
+      room = not-short (length out) n (s5 .0);
+      clean = true-of (cleanPicks n w m) (s6 .0);
+    }
+
+-- the words of a copied table
+pub load-words : (n : ℕ) (w x : List ℕ) → n ≡ length w → x ≡ padded 32 w → take (n - 0) x ≡ w
+load-words n w x e q = ap₂ take (sub-zero n) q ∙ take-padded 32 n w (sym e)
+
+-- one turn of the loop
+pub reach-turn : (n k : ℕ) (w out out′ p : List ℕ) → 1 ≤ k → out ≡ reach n 31 (lentPicks n w k) → p ≡ lentPick n w k → out′ ≡ compose n out (within n 31 p) → out′ ≡ reach n 31 (lentPicks n w (k + 1))
+unfolding lentPicks
+reach-turn n k w out out′ p l a b c =
+    c ∙ ap₂ (λ (x y : List ℕ). compose n x (within n 31 y)) a b ∙ sym (reach-snoc n 31 (lentPicks n w k) (lentPick n w k) (omega (arith, length-lent n w k))) ∙ ap (λ (i : ℕ). reach n 31 (lentPicks n w i)) (sym (add-one k))
+
+-- the first n words as code lends them
+pub front-long : (n : ℕ) (out : List ℕ) → n ≤ length out → n ≡ length (take (n - 0) out)
+front-long n out h = sym (ap (λ (x : ℕ). length (take x out)) (sub-zero n) ∙ length-take-le n out h)

@@ -1,0 +1,67 @@
+-- `reach::table` meets its contract: the verdict, and the table where nothing refuses.
+-- Assumes nothing.
+use native.Mathlib.Nat.{sub-zero}
+use Rattle.reach.proofs.Picks.{table-sound, front-long}
+use mathlib.Core.Path.{_≡_, sym, ap, _∙_}
+use native.Mathlib.Omega.{arith}
+use Rattle.calls.specs.Answers.{verdictSays}
+use Rattle.calls.proofs.Verdicts.{number-some}
+use Rattle.reach.specs.Tables.{tableLeaves, tableOf}
+use borrow.Author.Needs.{needs}
+use Rattle.reach.proofs.table.Statement.{statement}
+use Rattle.reach.proofs.table.Tie as tie
+
+table-verdict-requires : tie.Need-table-verdict-requires
+table-verdict-requires c κs = search needs
+
+enum-told : tie.Need-enum-told
+enum-told c = search needs
+
+div-m : tie.Need-div-m
+div-m c = let t = table-sound _ _ _ (sym (c .before .before .table-verdict .ensures) ∙ ap verdictSays (c .enum-told .given .1)) in let b = t .some-boards in omega arith
+
+sub-write-table : tie.Need-sub-write-table
+sub-write-table c = search needs
+
+part-write-table-start : tie.Need-part-write-table-start
+part-write-table-start c = search needs
+
+part-write-table-end : tie.Need-part-write-table-end
+part-write-table-end c = let t = table-sound _ _ _ (sym (c .before .before .table-verdict .ensures) ∙ ap verdictSays (c .enum-told .given .1)) in let b = t .room in omega arith
+
+write-table-requires : tie.Need-write-table-requires
+write-table-requires c κs = let t = table-sound _ _ _ (sym (c .before .before .before .table-verdict .ensures) ∙ ap verdictSays (c .before .enum-told .given .1)) in let w = t .words in (t .few, (front-long (c .before .before .before .before .before .before .before .args .n) (c .before .before .before .before .before .before .before .args .out .now) (t .room), (t .some-picks, (t .cap, omega arith))))
+
+enum-known-c : tie.Need-enum-known-c
+enum-known-c c = search needs
+
+same-length : tie.Need-same-length
+same-length c = search needs
+
+returns : tie.Need-returns
+unfolding tableLeaves tableOf
+returns c = let e = sym (c .before .before .before .before .before .before .table-verdict .ensures) ∙ ap verdictSays (c .before .before .before .before .enum-told .given .1) in (sym e, simp (e, c .before .before .write-table .ensures, sub-zero))
+
+same-length-2 : tie.Need-same-length-2
+same-length-2 c = search needs
+
+returns-2 : tie.Need-returns-2
+unfolding tableLeaves
+returns-2 c = let e = sym (c .before .before .before .table-verdict .ensures) ∙ ap verdictSays (c .before .c .given .1) in (sym e, simp (e, number-some (c .before .c .given .0 .0)))
+
+pub table-spec : {M : Type 1} → statement M
+table-spec =
+    tie.close
+    (tie.spec
+    table-verdict-requires
+    enum-told
+    div-m
+    sub-write-table
+    part-write-table-start
+    part-write-table-end
+    write-table-requires
+    enum-known-c
+    same-length
+    returns
+    same-length-2
+    returns-2)

@@ -1,0 +1,96 @@
+-- `reach::write_table` meets its contract. The invariant is the table of the first k picks.
+-- Assumes nothing.
+use Rattle.reach.proofs.Picks.{reach-turn, reach-first, first-lent}
+use Rattle.links.specs.Tables.{within}
+use native.Mathlib.Nat.{le-refl}
+use mathlib.Core.Path.{_≡_, sym, ap, _∙_}
+use Prim.Native.Nat.{_≤_, _-_, _*_}
+use native.Mathlib.Omega.{arith}
+use lib.ListN.{length}
+use Rattle.links.specs.Composed.{reach}
+use Rattle.checks.specs.Lent.{lentPicks}
+use Rattle.checks.proofs.Lent.{lent-end, lent-part, lent-room, length-lent}
+use borrow.Author.Needs.{needs}
+use Rattle.reach.proofs.write_table.Statement.{statement}
+use Rattle.reach.proofs.write_table.Tie as tie
+
+abbrev Inv-loop : tie.InvT-loop
+Inv-loop out₀ words n m k₀ out k = (1 ≤ k) × ((k ≤ m) × ((length out ≡ n) × (out ≡ reach n 31 (lentPicks n words k))))
+
+abbrev μ-loop : tie.MeasureT-loop
+μ-loop out₀ words n m k₀ out k = m - k
+
+sub-close-over : tie.Need-sub-close-over Inv-loop μ-loop
+sub-close-over c = search needs
+
+part-close-over-start : tie.Need-part-close-over-start Inv-loop μ-loop
+part-close-over-start c = search needs
+
+part-close-over-end : tie.Need-part-close-over-end Inv-loop μ-loop
+part-close-over-end c = omega (arith, lent-end (c .before .before .before .args .n) {k = 0} {m = c .before .before .before .args .m} (c .before .before .before .pre .1 .1 .0))
+
+close-over-requires : tie.Need-close-over-requires Inv-loop μ-loop
+close-over-requires c κs = search needs
+
+loop-holds : tie.Need-loop-holds Inv-loop μ-loop
+loop-holds c = (le-refl 1, (c .before .before .before .before .before .before .before .pre .1 .1 .0, (c .before .before .close-over .kept .0 ∙ sym (c .before .before .before .before .before .before .before .pre .1 .0), c .before .before .close-over .ensures ∙ ap (within (c .before .before .before .before .before .before .before .args .n) 31) (first-lent (c .before .before .before .before .before .before .before .args .n) (c .before .before .before .before .before .before .before .args .words .now)) ∙ sym (reach-first (c .before .before .before .before .before .before .before .args .n) 31 (c .before .before .before .before .before .before .before .args .words .now)))))
+
+mul-at : tie.Need-mul-at Inv-loop μ-loop
+mul-at c = omega (arith, lent-end (c .before .before .before .before .before .before .before .before .before .args .n) (c .loop-test .taken))
+
+add-add-pick : tie.Need-add-add-pick Inv-loop μ-loop
+add-add-pick c = omega (arith, lent-end (c .before .before .before .before .before .before .before .before .before .before .args .n) (c .before .loop-test .taken))
+
+mul-add-pick : tie.Need-mul-add-pick Inv-loop μ-loop
+mul-add-pick c = omega (arith, lent-end (c .before .before .before .before .before .before .before .before .before .before .args .n) (c .before .loop-test .taken))
+
+sub-add-pick : tie.Need-sub-add-pick Inv-loop μ-loop
+sub-add-pick c = search needs
+
+part-add-pick-start : tie.Need-part-add-pick-start Inv-loop μ-loop
+part-add-pick-start c = search needs
+
+part-add-pick-end : tie.Need-part-add-pick-end Inv-loop μ-loop
+part-add-pick-end c = omega (arith, lent-end (c .before .before .before .before .before .before .before .before .before .before .args .n) (c .before .loop-test .taken))
+
+add-pick-requires : tie.Need-add-pick-requires Inv-loop μ-loop
+add-pick-requires c κs = search needs
+
+add-k : tie.Need-add-k Inv-loop μ-loop
+add-k c = search needs
+
+loop-less : tie.Need-loop-less Inv-loop μ-loop
+loop-less c = search needs
+
+loop-again : tie.Need-loop-again Inv-loop μ-loop
+loop-again c = (omega arith, (omega (arith, c .before .before .before .before .before .loop-test .taken), (c .before .before .add-pick .kept .0 ∙ c .before .before .before .before .before .before .loop .inv .1 .1 .0, reach-turn (c .before .before .before .before .before .before .before .before .before .before .before .before .before .before .args .n) (c .before .before .before .before .before .before .loop .k) (c .before .before .before .before .before .before .before .before .before .before .before .before .before .before .args .words .now) (c .before .before .before .before .before .before .loop .out) (c .before .before .add-pick .last .0) _ (c .before .before .before .before .before .before .loop .inv .0) (c .before .before .before .before .before .before .loop .inv .1 .1 .1) (lent-part (c .before .before .before .before .before .before .before .before .before .before .before .before .before .before .args .n) (c .before .before .before .before .before .before .loop .k) (c .before .before .before .before .before .before .before .before .before .before .before .before .before .before .args .words .now)) (c .before .before .add-pick .ensures))))
+
+same-length : tie.Need-same-length Inv-loop μ-loop
+same-length c = search needs
+
+returns : tie.Need-returns Inv-loop μ-loop
+returns c = let e : c .before .loop .k ≡ c .before .before .before .before .before .before .before .before .before .args .m = omega arith in rw e at (c .before .loop .inv .1 .1 .1)
+
+pub write-table-spec : {M : Type 1} → statement M
+write-table-spec =
+    tie.close
+    (tie.spec
+    Inv-loop
+    μ-loop
+    sub-close-over
+    part-close-over-start
+    part-close-over-end
+    close-over-requires
+    loop-holds
+    mul-at
+    add-add-pick
+    mul-add-pick
+    sub-add-pick
+    part-add-pick-start
+    part-add-pick-end
+    add-pick-requires
+    add-k
+    loop-less
+    loop-again
+    same-length
+    returns)

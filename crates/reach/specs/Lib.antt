@@ -1,0 +1,2 @@
+-- What the call for the table of reach promises.
+pub mod Tables

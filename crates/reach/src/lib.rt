@@ -1,0 +1,79 @@
+// The call for the table of reach: bit b of word a is set when a journey leads from a to b in the whole recording.
+ghost use mathlib.Core.Path.{_≡_};
+ghost use Prim.Native.Nat.{_*_, _≤_};
+ghost use lib.ListN.{length};
+ghost use Rattle.links.specs.Tables.{compose, within};
+ghost use Rattle.links.specs.Composed.{reach};
+ghost use Rattle.checks.specs.Lent.{lentPicks};
+ghost use Rattle.calls.specs.Answers.{verdictSays};
+ghost use Rattle.reach.specs.Tables.{tableSays, tableVerdict, tableLeaves};
+use calls::Verdict;
+use model::Refusal;
+
+// The table was written, or why not.
+pub enum Tabled {
+    Written,
+    Refused(Refusal),
+}
+
+// The table takes in one pick more. A composition never reads what it writes, so the table is copied first.
+fn add_pick(out: &mut [u32], pick: &[u32], n: usize)
+    requires { ⌜ (n ≤ 32) × ((n ≡ length (now out)) × (n ≡ length (now pick))) ⌝ }
+    ensures { λ _. ⌜ now (out .exit) ≡ compose n (now (out .entry)) (within n 31 (now (pick .entry))) ⌝ }
+{
+    let before = lists::load(out, n);
+    let own = links::closed_words(pick, n);
+    links::join(out, &before[0..n], &own[0..n], n);
+}
+
+// The table of m picks, from the first one on.
+fn write_table(out: &mut [u32], words: &[u32], n: usize, m: usize)
+    requires { ⌜ (n ≤ 32) × ((n ≡ length (now out)) × ((1 ≤ m) × ((m ≤ 4096) × (m * n ≤ length (now words))))) ⌝ }
+    ensures { λ _. ⌜ now (out .exit) ≡ reach n 31 (lentPicks n (now (words .entry)) m) ⌝ }
+{
+    links::close_over(out, &words[0..n], n);
+    for k in 1..m {
+        let at = k * n;
+        add_pick(out, &words[at..at + n], n);
+    }
+}
+
+// The causes, in their order: 1, 10, 8, 3, 4, 5.
+fn table_verdict(n: usize, words: &[u32], out: &[u32]) -> Verdict
+    ensures { λ r. ⌜ verdictSays r ≡ tableVerdict n (now (words .entry)) (now (out .entry)) ⌝ }
+{
+    if !place::is_between(2, n, 32) {
+        return Verdict::Refuse(Refusal::Boards);
+    }
+    if words.len() % n != 0 {
+        return Verdict::Refuse(Refusal::Shape);
+    }
+    let m = words.len() / n;
+    if m == 0 {
+        return Verdict::Refuse(Refusal::NoPick);
+    }
+    if 4096 < m {
+        return Verdict::Refuse(Refusal::Picks);
+    }
+    if out.len() < n {
+        return Verdict::Refuse(Refusal::Room);
+    }
+    if !checks::are_clean(words, n, m) {
+        return Verdict::Refuse(Refusal::Forbidden);
+    }
+    Verdict::Sound
+}
+
+// The table of a recording lent whole, n words a pick, into the first n words of out.
+pub fn table(n: usize, words: &[u32], out: &mut [u32]) -> Tabled
+    ensures { λ r. ⌜ (tableSays r ≡ tableVerdict n (now (words .entry)) (now (out .entry))) × (now (out .exit) ≡ tableLeaves n (now (words .entry)) (now (out .entry))) ⌝ }
+{
+    match table_verdict(n, words, out) {
+        Verdict::Sound => {
+            let m = words.len() / n;
+            write_table(&mut out[0..n], words, n, m);
+            Tabled::Written
+        }
+        Verdict::Refuse(c) => Tabled::Refused(c),
+    }
+}
