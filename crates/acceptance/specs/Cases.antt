@@ -1,0 +1,54 @@
+-- Recordings by hand: the ten cases of document 01 as one table against the whole run's definition, each in an area exact to the word. Assumes nothing.
+use mathlib.Core.Path.{_≡_, refl}
+use Prim.Native.Nat.{ℕ, _/_}
+use mathlib.Core.List.{List, [], _∷_}
+use lib.ListN.{length}
+use Rattle.model.specs.Recording.{bit, link}
+use Rattle.lists.specs.Tab.{tab, zeros, every}
+use Rattle.links.specs.Tables.{without, bothRow, intersection, eitherRow, union, gathered, throughRow, composeRow, compose, within, pairFull, rowFull, full, connected, rowSame, same}
+use Rattle.links.specs.Composed.{composedFrom, composed, reach}
+use Rattle.times.specs.Times.{rows, sooner, later, after, apart, arriveBy, departBy, arrival, departure, arrivals, departures, composeTimes, ownTime, ownTimes, inTime, rowInTime, allInTime}
+use Rattle.checks.specs.Checks.{allowed, cleanRow, clean}
+use Rattle.checks.specs.Lent.{lentPick, lentPicks, cleanPick, cleanPicks}
+use Rattle.measures.specs.Kit.{widthOf, ownOf, joinOf, passOf}
+use Rattle.area.specs.Parts.{part, putPart, composeAt, copyAt, zeroAt, ownAt, zeroed}
+use Rattle.place.specs.Places.{fresh, pickTaken, startMoved, turned, charged, tested, between}
+use Rattle.steps.specs.Walk.{ladder, rebuilt, joinedArea, joined, extendedBy, extended, written, entered, windowArea, windowed, judged, tried, cleared, minStep, raisedBy, raised, again, climb, climbed, maxStep, stepped, reported}
+use Rattle.calls.specs.Answers.{Outcome, outcome}
+use Rattle.calls.specs.Calls.{stop, needed, openedArea, wholeVerdict, unions, wholeStart, wholeAfter, wholeReport, wholeSays}
+use Rattle.reach.specs.Tables.{tableOf}
+
+-- the whole run in an area exact to the word
+unfoldable pub run : ℕ → ℕ → List ℕ → Outcome
+run n measure w = wholeSays n measure w (zeros (needed measure n (length w / n)))
+
+-- 0→1, 1→0, 0→1, 1→0
+abbrev pub A : List ℕ
+A = 2 ∷ 0 ∷ 0 ∷ 1 ∷ 2 ∷ 0 ∷ 0 ∷ 1 ∷ []
+
+-- three picks with both links
+abbrev pub B : List ℕ
+B = 2 ∷ 1 ∷ 2 ∷ 1 ∷ 2 ∷ 1 ∷ []
+
+-- all links; only 0→1, 1→2, 2→0; only 1→0, 2→1, 0→2
+abbrev pub C : List ℕ
+C = 6 ∷ 5 ∷ 3 ∷ 2 ∷ 4 ∷ 1 ∷ 4 ∷ 1 ∷ 2 ∷ []
+
+-- both links, then none
+abbrev pub D : List ℕ
+D = 2 ∷ 1 ∷ 0 ∷ 0 ∷ []
+
+-- one pick without links
+abbrev pub F : List ℕ
+F = 0 ∷ 0 ∷ []
+
+-- THE TABLE of document 01: refusal, length, compositions, tests
+pub cases : run 2 1 A ∷ run 2 2 A ∷ run 2 3 A ∷ run 2 4 A ∷ run 2 1 B ∷ run 2 3 B ∷ run 3 1 C ∷ run 2 1 D ∷ run 2 3 D ∷ run 2 2 F ∷ []
+    ≡ outcome 9 0 0 1 ∷ outcome 0 2 6 4 ∷ outcome 0 2 3 4 ∷ outcome 0 3 4 4 ∷ outcome 0 3 2 3 ∷ outcome 0 1 0 3 ∷ outcome 0 1 3 5 ∷ outcome 9 0 1 3 ∷ outcome 0 2 0 2 ∷ outcome 0 1 0 1 ∷ []
+unfolding run bit link tab zeros every without bothRow intersection eitherRow union gathered throughRow composeRow compose within pairFull rowFull full connected rowSame same rows sooner later after apart arriveBy departBy arrival departure arrivals departures composeTimes ownTime ownTimes inTime rowInTime allInTime allowed cleanRow clean lentPick cleanPick cleanPicks widthOf ownOf joinOf passOf part putPart composeAt copyAt zeroAt ownAt zeroed fresh pickTaken startMoved turned charged tested between ladder rebuilt joinedArea joined extendedBy extended written entered windowArea windowed judged tried cleared minStep raisedBy raised again climb climbed maxStep stepped reported stop openedArea wholeVerdict unions wholeStart wholeAfter wholeReport wholeSays
+cases = refl
+
+-- the table of reach of A is words 2, 1
+pub table-of-A : tableOf 2 A ≡ 2 ∷ 1 ∷ []
+unfolding tableOf reach composed composedFrom lentPicks lentPick bit link tab zeros without eitherRow gathered throughRow composeRow compose within
+table-of-A = refl

@@ -1,0 +1,2 @@
+-- The tender, stated once, to be read.
+pub mod Cases

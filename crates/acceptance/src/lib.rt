@@ -1,0 +1,1 @@
+// No code: the conditions of the tender, stated once, to be read (specs/).
