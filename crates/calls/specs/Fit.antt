@@ -11,6 +11,13 @@ use Rattle.place.specs.declared.Place.{Place}
 use Rattle.place.specs.Places.{Sound}
 use Rattle.calls.specs.Calls.{needed}
 
+-- of the area that a walk starts from
+pub record Clears (n measure limit : ℕ) (footprint a : List ℕ) : Type 0 where
+  pub few : n ≤ 32
+  pub cap : limit ≤ 4096
+  pub room : needed measure n limit ≤ length a
+  pub list : measure ≡ 2 → n ≡ length footprint
+
 -- of an opening
 pub record Opens (n measure limit : ℕ) (footprint a : List ℕ) : Type 0 where
   pub some-boards : 2 ≤ n

@@ -4,10 +4,12 @@ ghost use mathlib.Core.Bool.{false};
 ghost use Prim.Native.Nat.{_+_, _*_, _/_, _%_, _≤_, _<_};
 ghost use lib.ListN.{length};
 ghost use lib.Dec.{ltb};
+ghost use Rattle.checks.specs.Checks.{listed};
+ghost use Rattle.area.specs.Parts.{part};
 ghost use Rattle.place.specs.Places.{fresh, charged};
 ghost use Rattle.steps.specs.Walk.{State, state, kitOf, stepped, reported};
 ghost use Rattle.calls.specs.Answers.{openingSays, takingSays, answerSays, verdictSays};
-ghost use Rattle.calls.specs.Fit.{Opens};
+ghost use Rattle.calls.specs.Fit.{Clears, Takes, Runs};
 ghost use Rattle.calls.specs.Calls.{stop, needed, openVerdict, openedArea, openSays, openLeaves, pickVerdict, pickSays, pickLeaves, reportSays, lengthSays, wholeVerdict, unions, wholeStart, wholeAfter, wholeReport, wholeSays, wholeLeaves};
 use model::Compositions;
 use model::Refusal;
@@ -92,7 +94,7 @@ fn open_verdict(n: usize, measure: usize, limit: usize, footprint: &[u32], area:
 
 // The needed words zero, and the footprint of measure 2 in part limit + 3.
 fn open_area(n: usize, measure: usize, limit: usize, footprint: &[u32], area: &mut [u32])
-    requires { ⌜ Opens n measure limit (now footprint) (now area) ⌝ }
+    requires { ⌜ Clears n measure limit (now footprint) (now area) ⌝ }
     ensures { λ _. ⌜ now (area .exit) ≡ openedArea n measure limit (now (footprint .entry)) (now (area .entry)) ⌝ }
 {
     let e = measures::width(measure, n);
@@ -113,6 +115,58 @@ pub fn open(n: usize, measure: usize, limit: usize, footprint: &[u32], area: &mu
             Opening::Opened(Place::open(measure, n, limit))
         }
         Verdict::Refuse(c) => Opening::NotOpened(Place::NOWHERE, c),
+    }
+}
+
+// ---- pick
+
+// Whether the footprint in part limit + 3 has every link of a pick.
+fn is_listed(area: &[u32], words: &[u32], n: usize, limit: usize) -> bool
+    requires { ⌜ (n ≤ 32) × ((limit ≤ 4096) × ((n ≡ length (now words)) × ((limit + 4) * n ≤ length (now area)))) ⌝ }
+    ensures { λ r. ⌜ r ≡ listed n (part n (now (area .entry)) (limit + 3)) (now (words .entry)) ⌝ }
+{
+    let at = (limit + 2) * n;
+    checks::is_listed(&area[at..at + n], words, n)
+}
+
+// The causes of a pick, in their order: 16, 7, 10, 5, 4, 6.
+fn pick_verdict(p: Place, area: &[u32], words: &[u32]) -> Verdict
+    ensures { λ r. ⌜ verdictSays r ≡ pickVerdict p (now (area .entry)) (now (words .entry)) ⌝ }
+{
+    let n = p.boards;
+    let limit = p.limit;
+    let measure = p.measure;
+    if !p.is_sound() {
+        return Verdict::Refuse(Refusal::BadPlace);
+    }
+    if limit <= p.taken.0 {
+        return Verdict::Refuse(Refusal::Full);
+    }
+    if words.len() != n {
+        return Verdict::Refuse(Refusal::Shape);
+    }
+    if !checks::is_clean(words, n) {
+        return Verdict::Refuse(Refusal::Forbidden);
+    }
+    if is_short(area, measure, n, limit) {
+        return Verdict::Refuse(Refusal::Room);
+    }
+    if measure != 2 {
+        return Verdict::Sound;
+    }
+    if !is_listed(area, words, n, limit) {
+        return Verdict::Refuse(Refusal::Unlisted);
+    }
+    Verdict::Sound
+}
+
+// Takes a pick: one step of the walk.
+pub fn pick(p: Place, area: &mut [u32], words: &[u32]) -> Taking
+    ensures { λ r. ⌜ (takingSays r ≡ pickSays p (now (area .entry)) (now (words .entry))) × (now (area .exit) ≡ pickLeaves p (now (area .entry)) (now (words .entry))) ⌝ }
+{
+    match pick_verdict(p, area, words) {
+        Verdict::Sound => Taking::Taken(steps::step(p, area, words)),
+        Verdict::Refuse(c) => Taking::NotTaken(p, c),
     }
 }
 

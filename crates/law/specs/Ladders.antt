@@ -15,7 +15,7 @@ use Rattle.measures.specs.Kit.{Kit}
 use Rattle.area.specs.Parts.{part, composeAt}
 use Rattle.place.specs.Places.{pickTaken, startMoved, turned, charged, tested}
 use Rattle.steps.specs.Walk.{State, state, ladder, written, rebuilt, joinedArea, joined, extendedBy, extended, entered, windowArea, windowed, judged, tried, cleared, raisedBy, raised}
-use Rattle.law.specs.Frames.{frame-room, ladder-length, ladder-out, written-frame, rebuilt-frame, joined-frame, tried-frame, cleared-frame}
+use Rattle.steps.proofs.Frames.{frame-room, ladder-length, ladder-out, written-frame, rebuilt-frame, joined-frame, tried-frame, cleared-frame}
 use Rattle.area.proofs.Laws.{Wide, own-same, compose-same, compose-other, copy-same, zero-same, zero-other}
 
 pub not-lt : (m n : ℕ) → (T (ltb m n) → ⊥) → n ≤ m

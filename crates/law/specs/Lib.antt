@@ -4,7 +4,6 @@ pub mod Kits
 pub mod Stars
 pub mod Condition3
 pub mod Unlimited
-pub mod Frames
 pub mod Ladders
 pub mod Costs
 pub mod MinWalk

@@ -19,7 +19,7 @@ use Rattle.place.specs.declared.Place.{Place}
 use Rattle.place.specs.Places.{pickTaken, startMoved, turned, charged, tested}
 use Rattle.steps.specs.Walk.{State, state, written, rebuilt, joined, extendedBy, extended, entered, onLeft, onRight, windowed, judged, tried, cleared, raisedBy, raised, again, climb, climbed, ended, maxStep, reported}
 use Rattle.area.proofs.Laws.{zero-same, zero-length}
-use Rattle.law.specs.Frames.{either-ind, tried-at, raised-at}
+use Rattle.steps.proofs.Frames.{either-ind, tried-at, raised-at}
 use Rattle.law.specs.Ladders.{holds, Law, Laddered, entered-by, raised-laddered, tried-tests, cleared-laddered, cleared-window, not-lt}
 use Rattle.law.specs.Costs.{val-le, val-no, cost-far, cost-near, rise-far, rise-near}
 use Rattle.law.specs.MinWalk.{Fails}

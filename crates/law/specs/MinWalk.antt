@@ -17,7 +17,7 @@ use Rattle.model.specs.Journey.{val}
 use Rattle.place.specs.Places.{pickTaken, startMoved, turned, charged, tested}
 use Rattle.steps.specs.Walk.{State, written, rebuilt, joined, extendedBy, extended, entered, onLeft, onRight, windowed, judged, tried, cleared, minStep, reported}
 use Rattle.area.proofs.Laws.{zero-same}
-use Rattle.law.specs.Frames.{either-ind}
+use Rattle.steps.proofs.Frames.{either-ind}
 use Rattle.law.specs.Ladders.{holds, Law, Laddered, entered-by, tried-tests, cleared-laddered, cleared-window, not-lt}
 use Rattle.law.specs.Costs.{val-le, cost-far, cost-near}
 

@@ -27,7 +27,7 @@ use Rattle.calls.specs.Answers.{Outcome, outcome}
 use Rattle.calls.specs.Calls.{needed, openVerdict, openedArea, openSays, openLeaves, pickVerdict, pickState, reportSays, lengthSays}
 use Rattle.calls.specs.Fit.{Opens, Takes}
 use Rattle.calls.proofs.Verdicts.{open-sound, pick-sound}
-use Rattle.law.specs.Frames.{Room, Frame, rise, stepped-frame, Untouched}
+use Rattle.steps.proofs.Frames.{Room, Frame, rise, stepped-frame, Untouched}
 use Rattle.law.specs.Runs.{Kept, stepped-kept, walked, walked-kept}
 use Rattle.law.specs.Opened.{start, opened-list, opened-length}
 use Rattle.law.specs.Correct.{Passes, Right, Counted}

@@ -17,7 +17,7 @@ use Rattle.area.proofs.Laws.{put-length, put-same, put-other, put-beyond, zeroe
 use Rattle.place.specs.Places.{fresh, charged}
 use Rattle.steps.specs.Walk.{State, state}
 use Rattle.calls.specs.Calls.{needed, openedArea}
-use Rattle.law.specs.Frames.{either-ind}
+use Rattle.steps.proofs.Frames.{either-ind}
 use Rattle.law.specs.Ladders.{Laddered, holds}
 use Rattle.law.specs.MinWalk.{Stands}
 use Rattle.law.specs.MaxWalk.{Lives}

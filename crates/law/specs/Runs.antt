@@ -19,7 +19,7 @@ use Rattle.place.specs.Places.{pickTaken, startMoved, turned, charged, tested}
 use Rattle.steps.specs.Walk.{State, state, rebuilt, joined, far, extendedBy, extended, written, entered, windowed, judged, tried, cleared, minStep, raisedBy, raised, again, climb, climbed, ended, maxStep, stepped}
 use Rattle.law.specs.Faithful.{Faithful, windowTable, split-law, single-law}
 use Rattle.law.specs.Ladders.{Law}
-use Rattle.law.specs.Frames.{either-ind}
+use Rattle.steps.proofs.Frames.{either-ind}
 
 -- ---- what a pick keeps of the place
 

@@ -1,1 +1,259 @@
-// The steps of the walk.
+// The steps of the walk, on a place and the words of its area. m is the picks taken, s the start of the window, b the boundary: the left ladder
+// stands in parts s to b, the right ladder, over picks b + 1 to m, in part limit + 1, the window in part limit + 2, the footprint in limit + 3.
+ghost use mathlib.Core.Path.{_≡_};
+ghost use Prim.Native.Nat.{_+_, _-_, _≤_, _<_};
+ghost use lib.ListN.{length};
+ghost use Rattle.model.specs.Journey.{val};
+ghost use Rattle.area.specs.Parts.{composeAt, copyAt, zeroAt};
+ghost use Rattle.steps.specs.Walk.{state, kitOf, ladder, rebuilt, joined, extended, entered, windowed, judged, tried, minStep, raised, again, climbed, ended, maxStep, stepped};
+ghost use Rattle.steps.specs.Fit.{Able, In, Fit, Entry, Takes, Does};
+use model::Pick;
+use place::Place;
+
+// ---- parts, with the measure and the boards of the place
+
+fn compose_at(p: Place, area: &mut [u32], d: usize, l: usize, r: usize)
+    requires { ⌜ Able p (length (now area)) × (In p d × (In p l × In p r)) ⌝ }
+    ensures { λ _. ⌜ now (area .exit) ≡ composeAt (kitOf p) (now (area .entry)) d l r ⌝ }
+{
+    area::compose_parts(area, p.measure, p.boards, d, l, r);
+}
+
+fn copy_at(p: Place, area: &mut [u32], d: usize, l: usize)
+    requires { ⌜ Able p (length (now area)) × (In p d × In p l) ⌝ }
+    ensures { λ _. ⌜ now (area .exit) ≡ copyAt (kitOf p) (now (area .entry)) d l ⌝ }
+{
+    area::copy_part(area, p.measure, p.boards, d, l);
+}
+
+fn zero_at(p: Place, area: &mut [u32], d: usize)
+    requires { ⌜ Able p (length (now area)) × In p d ⌝ }
+    ensures { λ _. ⌜ now (area .exit) ≡ zeroAt (kitOf p) (now (area .entry)) d ⌝ }
+{
+    area::zero_part(area, p.measure, p.boards, d);
+}
+
+// Part limit + 4 is zero after each pick taken.
+fn clear_spare(p: Place, area: &mut [u32])
+    requires { ⌜ Able p (length (now area)) ⌝ }
+    ensures { λ _. ⌜ now (area .exit) ≡ zeroAt (kitOf p) (now (area .entry)) (p .limit + 4) ⌝ }
+{
+    let limit = p.limit;
+    zero_at(p, area, limit + 4);
+}
+
+// ---- the ladders
+
+// From part m - 1 down to part s, each part becomes its composition with the part after it, so that part i holds the window i to m.
+fn build_left(p: Place, area: &mut [u32], s: usize, m: usize)
+    requires { ⌜ Able p (length (now area)) × ((1 ≤ s) × ((s ≤ m) × (m ≤ p .limit))) ⌝ }
+    ensures { λ _. ⌜ now (area .exit) ≡ ladder (kitOf p) (now (area .entry)) m (m - s) ⌝ }
+{
+    let mut i = m;
+    while s < i {
+        i -= 1;
+        compose_at(p, area, i, i, i + 1);
+    }
+}
+
+// b becomes m: the left ladder is built over s to m, one composition for each part but the last, and the right ladder is empty.
+fn rebuild(p: Place, area: &mut [u32]) -> Place
+    requires { ⌜ Fit p (length (now area)) ⌝ }
+    ensures { λ r. ⌜ Does (rebuilt (kitOf p)) p (now (area .entry)) r (now (area .exit)) ⌝ }
+{
+    let m = p.taken;
+    let s = p.start;
+    let limit = p.limit;
+    build_left(p, area, s.0, m.0);
+    zero_at(p, area, limit + 1);
+    let q = p.turned();
+    q.charged(m.0 - s.0)
+}
+
+// Pick m joins the right ladder: a composition, unless that was empty and m is all it holds.
+fn join(p: Place, area: &mut [u32]) -> Place
+    requires { ⌜ Fit p (length (now area)) ⌝ }
+    ensures { λ r. ⌜ Does (joined (kitOf p)) p (now (area .entry)) r (now (area .exit)) ⌝ }
+{
+    let m = p.taken;
+    let b = p.boundary;
+    let limit = p.limit;
+    if b.0 + 1 < m.0 {
+        compose_at(p, area, limit + 1, limit + 1, m.0);
+        return p.charged(1);
+    }
+    copy_at(p, area, limit + 1, m.0);
+    p
+}
+
+// The ladders take in pick m. A start beyond b + 1 has left the left ladder behind, and part of the right one: only then is a new one built.
+fn extend(p: Place, area: &mut [u32]) -> Place
+    requires { ⌜ Fit p (length (now area)) ⌝ }
+    ensures { λ r. ⌜ Does (extended (kitOf p)) p (now (area .entry)) r (now (area .exit)) ⌝ }
+{
+    let s = p.start;
+    let b = p.boundary;
+    if b.0 + 1 < s.0 {
+        return rebuild(p, area);
+    }
+    join(p, area)
+}
+
+// A new pick: its own table goes to its part, the start moves by k, and the ladders take it in.
+fn enter(p: Place, area: &mut [u32], words: &[u32], k: usize) -> Place
+    requires { ⌜ Entry p k (length (now area)) × ((k ≤ 1) × (p .boards ≡ length (now words))) ⌝ }
+    ensures { λ r. ⌜ Does (entered (kitOf p) k (now (words .entry))) p (now (area .entry)) r (now (area .exit)) ⌝ }
+{
+    let m = p.taken;
+    let next = Pick(m.0 + 1);
+    area::own_part(area, words, p.measure, p.boards, next);
+    let q = p.pick_taken();
+    let r = q.start_moved(k);
+    extend(r, area)
+}
+
+// ---- a test
+
+// The window s to m goes to part limit + 2: a composition where it lies on both ladders, else a copy from the one it lies on.
+fn window(p: Place, area: &mut [u32]) -> Place
+    requires { ⌜ Fit p (length (now area)) ⌝ }
+    ensures { λ r. ⌜ Does (windowed (kitOf p)) p (now (area .entry)) r (now (area .exit)) ⌝ }
+{
+    let m = p.taken;
+    let s = p.start;
+    let b = p.boundary;
+    let limit = p.limit;
+    if b.0 < s.0 {
+        copy_at(p, area, limit + 2, limit + 1);
+        return p;
+    }
+    if m.0 <= b.0 {
+        copy_at(p, area, limit + 2, s.0);
+        return p;
+    }
+    compose_at(p, area, limit + 2, s.0, limit + 1);
+    p.charged(1)
+}
+
+// The test of the window in part limit + 2; the area stays as it is.
+fn judge(p: Place, area: &[u32]) -> Place
+    requires { ⌜ Fit p (length (now area)) ⌝ }
+    ensures { λ r. ⌜ r ≡ judged (kitOf p) (state p (now (area .entry))) .place ⌝ }
+{
+    let limit = p.limit;
+    let passed = area::passes_part(area, p.measure, p.boards, limit + 3, limit + 2);
+    p.tested(passed)
+}
+
+// One test of the window s to m.
+fn try_window(p: Place, area: &mut [u32]) -> Place
+    requires { ⌜ Fit p (length (now area)) × ((p .compositions .0 ≤ 99000000) × (p .tests .0 ≤ 99000000)) ⌝ }
+    ensures { λ r. ⌜ Does (tried (kitOf p)) p (now (area .entry)) r (now (area .exit)) ⌝ }
+{
+    let q = window(p, area);
+    judge(q, area)
+}
+
+// 1 where x holds: what the start moves by.
+fn one_if(x: bool) -> usize
+    ensures { λ r. ⌜ r ≡ val x ⌝ }
+{
+    if x { 1 } else { 0 }
+}
+
+// ---- measures 2, 3 and 4: minimisation
+
+// One pick: the start moves on after a test that passed, and one test follows.
+fn min_step(p: Place, area: &mut [u32], words: &[u32]) -> Place
+    requires { ⌜ Entry p (val (p .passed)) (length (now area)) × (p .boards ≡ length (now words)) ⌝ }
+    ensures { λ r. ⌜ Does (minStep (kitOf p) (now (words .entry))) p (now (area .entry)) r (now (area .exit)) ⌝ }
+{
+    let k = one_if(p.passed);
+    let q = enter(p, area, words, k);
+    let r = try_window(q, area);
+    clear_spare(p, area);
+    r
+}
+
+// ---- measure 1: maximisation
+
+// After a failure the start rises by one; where it then exceeds b + 1, the left ladder is built.
+fn raise(p: Place, area: &mut [u32]) -> Place
+    requires { ⌜ Fit p (length (now area)) × (p .start .0 < p .taken .0) ⌝ }
+    ensures { λ r. ⌜ Does (raised (kitOf p)) p (now (area .entry)) r (now (area .exit)) ⌝ }
+{
+    let s = p.start;
+    let b = p.boundary;
+    let q = p.start_moved(1);
+    if b.0 + 1 < s.0 + 1 {
+        return rebuild(q, area);
+    }
+    q
+}
+
+// A rise, and the test repeated.
+fn again(p: Place, area: &mut [u32]) -> Place
+    requires { ⌜ Fit p (length (now area)) × ((p .start .0 < p .taken .0) × ((p .compositions .0 ≤ 98000000) × (p .tests .0 ≤ 98000000))) ⌝ }
+    ensures { λ r. ⌜ Does (again (kitOf p)) p (now (area .entry)) r (now (area .exit)) ⌝ }
+{
+    let q = raise(p, area);
+    try_window(q, area)
+}
+
+// Until a test passes or the window s = m has failed: k = m - s rises are left.
+fn climb(p: Place, area: &mut [u32]) -> Place
+    requires { ⌜ Fit p (length (now area)) × ((p .compositions .0 ≤ 95000000) × (p .tests .0 ≤ 95000000)) ⌝ }
+    ensures { λ r. ⌜ Does (climbed (kitOf p)) p (now (area .entry)) r (now (area .exit)) ⌝ }
+{
+    let m = p.taken;
+    let s = p.start;
+    let mut k = m.0 - s.0;
+    let mut q = p;
+    while 0 < k {
+        if q.passed {
+            return q;
+        }
+        q = again(q, area);
+        k -= 1;
+    }
+    q
+}
+
+// None for good: some pick is taken and the last test not passed.
+fn is_ended(p: Place) -> bool
+    ensures { λ r. ⌜ r ≡ ended p ⌝ }
+{
+    let m = p.taken;
+    if 0 < m.0 {
+        return !p.passed;
+    }
+    false
+}
+
+// One pick: the start moves on once a test has failed, and rises while tests fail; after the end only m does.
+fn max_step(p: Place, area: &mut [u32], words: &[u32]) -> Place
+    requires { ⌜ Entry p (val (p .failed)) (length (now area)) × (p .boards ≡ length (now words)) ⌝ }
+    ensures { λ r. ⌜ Does (maxStep (kitOf p) (now (words .entry))) p (now (area .entry)) r (now (area .exit)) ⌝ }
+{
+    if is_ended(p) {
+        return p.pick_taken();
+    }
+    let k = one_if(p.failed);
+    let q = enter(p, area, words, k);
+    let t = try_window(q, area);
+    let r = climb(t, area);
+    clear_spare(p, area);
+    r
+}
+
+// ---- a pick taken
+
+pub fn step(p: Place, area: &mut [u32], words: &[u32]) -> Place
+    requires { ⌜ Takes p (length (now area)) (length (now words)) ⌝ }
+    ensures { λ r. ⌜ Does (stepped (kitOf p) (now (words .entry))) p (now (area .entry)) r (now (area .exit)) ⌝ }
+{
+    if p.measure == 1 {
+        return max_step(p, area, words);
+    }
+    min_step(p, area, words)
+}

@@ -1,10 +1,10 @@
 -- `calls::open` meets its contract: the verdict, and the effect where nothing refuses.
 -- Assumes nothing.
+use Rattle.calls.proofs.Verdicts.{open-sound, open-clears, number-some}
 use mathlib.Core.Path.{_≡_, sym, ap, _∙_}
 use Rattle.place.specs.Places.{nowhere}
 use Rattle.calls.specs.Answers.{verdictSays}
 use Rattle.calls.specs.Calls.{openSays, openLeaves}
-use Rattle.calls.proofs.Verdicts.{open-sound, number-some}
 use borrow.Author.Needs.{needs}
 use Rattle.calls.proofs.open.Statement.{statement}
 use Rattle.calls.proofs.open.Tie as tie
@@ -16,7 +16,7 @@ enum-told : tie.Need-enum-told
 enum-told c = search needs
 
 open-area-requires : tie.Need-open-area-requires
-open-area-requires c κs = open-sound _ _ _ _ _ (sym (c .before .before .before .open-verdict .ensures) ∙ ap verdictSays (c .before .enum-told .given .1))
+open-area-requires c κs = open-clears (open-sound _ _ _ _ _ (sym (c .before .before .before .open-verdict .ensures) ∙ ap verdictSays (c .before .enum-told .given .1)))
 
 open-requires : tie.Need-open-requires
 open-requires c κs = let o = open-sound _ _ _ _ _ (sym (c .before .before .before .before .before .before .open-verdict .ensures) ∙ ap verdictSays (c .before .before .before .before .enum-told .given .1)) in (o .measure-low, o .measure-high)

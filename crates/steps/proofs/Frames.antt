@@ -17,8 +17,8 @@ use Rattle.area.specs.Parts.{part}
 use Rattle.area.proofs.Laws.{Wide, own-length, own-other, own-beyond, compose-length, compose-other, compose-beyond, copy-length, copy-other, copy-beyond, zero-length, zero-other, zero-beyond}
 use Rattle.place.specs.declared.Place.{Place}
 use Rattle.place.specs.Places.{pickTaken, startMoved, turned, charged, tested}
-use Rattle.law.specs.Costs.{val-le}
+use Rattle.model.proofs.Bits.{val-le}
 use Rattle.steps.specs.Walk.{State, state, ladder, written, rebuilt, joinedArea, joined, more, far, extendedBy, extended, entered, windowArea, onLeft, onRight, windowed, judged, tried, cleared, minStep, raisedBy, raised, again, climb, climbed, ended, maxStep, stepped}
 
 -- a choice, by the test's two cases
 pub either-ind : {A : Type 0} (Q : A → Type 0) (x : Bool) (a b : A) → (T x → Q a) → ((T x → ⊥) → Q b) → Q (either x a b)

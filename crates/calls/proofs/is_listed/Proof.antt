@@ -1,0 +1,52 @@
+-- `calls::is_listed` meets its contract.
+-- Assumes nothing.
+use Prim.Native.Nat.{ℕ}
+use mathlib.Core.List.{List}
+use Rattle.checks.specs.Checks.{listed}
+use Rattle.calls.proofs.Verdicts.{third-lent, third-end}
+use mathlib.Core.Path.{_≡_, sym, ap, _∙_}
+use native.Mathlib.Omega.{arith}
+use borrow.Author.Needs.{needs}
+use Rattle.calls.proofs.is_listed.Statement.{statement}
+use Rattle.calls.proofs.is_listed.Tie as tie
+
+add-at : tie.Need-add-at
+add-at c = search needs
+
+mul-at : tie.Need-mul-at
+mul-at c = search needs
+
+add-is-listed : tie.Need-add-is-listed
+add-is-listed c = search needs
+
+mul-is-listed : tie.Need-mul-is-listed
+mul-is-listed c = search needs
+
+sub-is-listed : tie.Need-sub-is-listed
+sub-is-listed c = search needs
+
+part-is-listed-start : tie.Need-part-is-listed-start
+part-is-listed-start c = search needs
+
+part-is-listed-end : tie.Need-part-is-listed-end
+part-is-listed-end c = search needs
+
+is-listed-requires : tie.Need-is-listed-requires
+is-listed-requires c κs = search needs
+
+returns : tie.Need-returns
+returns c = c .is-listed .ensures ∙ ap (λ (x : List ℕ). listed (c .before .before .before .before .args .n) x (c .before .before .before .before .args .words .now)) (third-lent (c .before .before .before .before .args .n) (c .before .before .before .before .args .limit) (c .before .before .before .before .args .area .now))
+
+pub is-listed-spec : {M : Type 1} → statement M
+is-listed-spec =
+    tie.close
+    (tie.spec
+    add-at
+    mul-at
+    add-is-listed
+    mul-is-listed
+    sub-is-listed
+    part-is-listed-start
+    part-is-listed-end
+    is-listed-requires
+    returns)

@@ -1,0 +1,50 @@
+-- `calls::pick` meets its contract: the verdict, and the step where nothing refuses.
+-- Assumes nothing.
+use Rattle.steps.specs.Walk.{State}
+use Rattle.calls.proofs.Verdicts.{pick-sound, number-some, taken-state, refused-state}
+use Rattle.calls.specs.Answers.{verdictSays, handed}
+use Prim.Native.Nat.{ℕ}
+use lib.Dec.{eqb}
+use mathlib.Core.Path.{_≡_, sym, ap, _∙_}
+use Rattle.calls.specs.Calls.{pickState}
+use Rattle.steps.proofs.Ready.{sound-takes}
+use borrow.Author.Needs.{needs}
+use Rattle.calls.proofs.pick.Statement.{statement}
+use Rattle.calls.proofs.pick.Tie as tie
+
+pick-verdict-requires : tie.Need-pick-verdict-requires
+pick-verdict-requires c κs = search needs
+
+enum-told : tie.Need-enum-told
+enum-told c = search needs
+
+step-requires : tie.Need-step-requires
+step-requires c κs = let t = pick-sound _ _ _ (sym (c .before .before .before .pick-verdict .ensures) ∙ ap verdictSays (c .before .enum-told .given .1)) in sound-takes (t .sound) (t .room) (t .below) (sym (t .shape))
+
+enum-known-c : tie.Need-enum-known-c
+enum-known-c c = search needs
+
+same-length : tie.Need-same-length
+same-length c = search needs
+
+returns : tie.Need-returns
+returns c = let e = sym (c .before .before .before .before .before .before .pick-verdict .ensures) ∙ ap verdictSays (c .before .before .before .before .enum-told .given .1) in let q = taken-state (c .before .before .before .before .before .before .before .before .before .before .args .p) (c .before .before .before .before .before .before .before .before .before .before .args .area .now) (c .before .before .before .before .before .before .before .before .before .before .args .words .now) e in (simp (e, c .before .before .step .ensures .0, q), c .before .before .step .ensures .1 ∙ sym (ap (λ (x : State). x .area) q))
+
+same-length-2 : tie.Need-same-length-2
+same-length-2 c = search needs
+
+returns-2 : tie.Need-returns-2
+returns-2 c = let e = sym (c .before .before .before .pick-verdict .ensures) ∙ ap verdictSays (c .before .c .given .1) in let q = refused-state (c .before .before .before .before .before .before .before .args .p) (c .before .before .before .before .before .before .before .args .area .now) (c .before .before .before .before .before .before .before .args .words .now) (ap (λ (x : ℕ). eqb x 0) e ∙ number-some (c .before .c .given .0 .0)) in (simp (e, q), sym (ap (λ (x : State). x .area) q))
+
+pub pick-spec : {M : Type 1} → statement M
+pick-spec =
+    tie.close
+    (tie.spec
+    pick-verdict-requires
+    enum-told
+    step-requires
+    enum-known-c
+    same-length
+    returns
+    same-length-2
+    returns-2)

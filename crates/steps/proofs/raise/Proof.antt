@@ -1,0 +1,45 @@
+-- `steps::raise` meets its contract, by the test of its branch.
+-- Assumes nothing.
+use mathlib.Core.Path.{refl}
+use borrow.Author.Tests.{lt-ltb, le-ltb}
+use Rattle.place.specs.Places.{startMoved}
+use Rattle.steps.specs.Walk.{raised, raisedBy, rebuilt}
+use Rattle.steps.proofs.Fit.{fit-at, moved-fit, does-at}
+use borrow.Author.Needs.{needs}
+use Rattle.steps.proofs.raise.Statement.{statement}
+use Rattle.steps.proofs.raise.Tie as tie
+
+start-moved-requires : tie.Need-start-moved-requires
+start-moved-requires c κs = search needs
+
+add-if1 : tie.Need-add-if1
+add-if1 c = search needs
+
+add-if1-2 : tie.Need-add-if1-2
+add-if1-2 c = search needs
+
+rebuild-requires : tie.Need-rebuild-requires
+rebuild-requires c κs = fit-at (c .before .before .before .before .start-moved .ensures) refl (moved-fit _ (c .before .before .before .before .before .before .before .before .pre .0) (c .before .before .before .before .before .before .before .before .pre .1))
+
+same-length : tie.Need-same-length
+same-length c = search needs
+
+returns : tie.Need-returns
+unfolding raised raisedBy startMoved
+returns c = simp (lt-ltb _ _ (c .before .before .before .before .if1 .taken)) (does-at rebuilt (c .before .before .before .before .before .before .before .start-moved .ensures) refl (c .before .before .rebuild .ensures))
+
+returns-2 : tie.Need-returns-2
+unfolding raised raisedBy startMoved
+returns-2 c = simp (le-ltb _ _ (c .if1 .left)) (c .before .before .before .start-moved .ensures, refl)
+
+pub raise-spec : {M : Type 1} → statement M
+raise-spec =
+    tie.close
+    (tie.spec
+    start-moved-requires
+    add-if1
+    add-if1-2
+    rebuild-requires
+    same-length
+    returns
+    returns-2)

@@ -1,0 +1,76 @@
+-- `steps::window` meets its contract, by the tests of its branches.
+-- Assumes nothing.
+use borrow.Author.Tests.{lt-ltb, le-ltb, lt-leb, le-leb}
+use Rattle.steps.specs.Walk.{windowed, windowArea}
+use Rattle.steps.proofs.Fit.{charged-none}
+use borrow.Author.Needs.{needs}
+use Rattle.steps.proofs.window.Statement.{statement}
+use Rattle.steps.proofs.window.Tie as tie
+
+add-copy-at : tie.Need-add-copy-at
+add-copy-at c = search needs
+
+add-copy-at-2 : tie.Need-add-copy-at-2
+add-copy-at-2 c = search needs
+
+copy-at-requires : tie.Need-copy-at-requires
+copy-at-requires c κs = search needs
+
+same-length : tie.Need-same-length
+same-length c = search needs
+
+returns : tie.Need-returns
+unfolding windowed windowArea
+returns c = simp (lt-leb _ _ (c .before .before .before .before .if1 .taken)) (charged-none _, c .before .before .copy-at .ensures)
+
+add-copy-at-3 : tie.Need-add-copy-at-3
+add-copy-at-3 c = search needs
+
+copy-at-requires-2 : tie.Need-copy-at-requires-2
+copy-at-requires-2 c κs = search needs
+
+same-length-2 : tie.Need-same-length-2
+same-length-2 c = search needs
+
+returns-2 : tie.Need-returns-2
+unfolding windowed windowArea
+returns-2 c = simp (le-leb _ _ (c .before .before .before .before .before .before .before .if1 .left), le-ltb _ _ (c .before .before .before .before .if2 .taken)) (charged-none _, c .before .before .copy-at2 .ensures)
+
+add-compose-at : tie.Need-add-compose-at
+add-compose-at c = search needs
+
+add-compose-at-2 : tie.Need-add-compose-at-2
+add-compose-at-2 c = search needs
+
+compose-at-requires : tie.Need-compose-at-requires
+compose-at-requires c κs = search needs
+
+charged-requires : tie.Need-charged-requires
+charged-requires c κs = search needs
+
+same-length-3 : tie.Need-same-length-3
+same-length-3 c = search needs
+
+returns-3 : tie.Need-returns-3
+unfolding windowed windowArea
+returns-3 c = simp (le-leb _ _ (c .before .before .before .before .before .before .before .before .if1 .left), lt-ltb _ _ (c .before .before .before .before .before .if2 .left)) (c .charged .ensures, c .before .before .before .compose-at .ensures)
+
+pub window-spec : {M : Type 1} → statement M
+window-spec =
+    tie.close
+    (tie.spec
+    add-copy-at
+    add-copy-at-2
+    copy-at-requires
+    same-length
+    returns
+    add-copy-at-3
+    copy-at-requires-2
+    same-length-2
+    returns-2
+    add-compose-at
+    add-compose-at-2
+    compose-at-requires
+    charged-requires
+    same-length-3
+    returns-3)
