@@ -15,7 +15,7 @@ use Rattle.area.specs.Parts.{part, putPart, composeAt, copyAt, zeroAt, ownAt, z
 use Rattle.place.specs.Places.{fresh, pickTaken, startMoved, turned, charged, tested, between}
 use Rattle.steps.specs.Walk.{ladder, rebuilt, joinedArea, joined, extendedBy, extended, written, entered, windowArea, windowed, judged, tried, cleared, minStep, raisedBy, raised, again, climb, climbed, maxStep, stepped, reported}
 use Rattle.calls.specs.Answers.{Outcome, outcome}
-use Rattle.calls.specs.Calls.{stop, needed, openedArea, wholeVerdict, unions, wholeStart, wholeAfter, wholeReport, wholeSays}
+use Rattle.calls.specs.Calls.{stop, needed, openedArea, wholeVerdict, unions, wholeStart, stepsOf, wholeAfter, wholeReport, wholeSays}
 use Rattle.reach.specs.Tables.{tableOf}
 
 -- the whole run in an area exact to the word
@@ -45,7 +45,7 @@ F = 0 ∷ 0 ∷ []
 -- THE TABLE of document 01: refusal, length, compositions, tests
 pub cases : run 2 1 A ∷ run 2 2 A ∷ run 2 3 A ∷ run 2 4 A ∷ run 2 1 B ∷ run 2 3 B ∷ run 3 1 C ∷ run 2 1 D ∷ run 2 3 D ∷ run 2 2 F ∷ []
     ≡ outcome 9 0 0 1 ∷ outcome 0 2 6 4 ∷ outcome 0 2 3 4 ∷ outcome 0 3 4 4 ∷ outcome 0 3 2 3 ∷ outcome 0 1 0 3 ∷ outcome 0 1 3 5 ∷ outcome 9 0 1 3 ∷ outcome 0 2 0 2 ∷ outcome 0 1 0 1 ∷ []
-unfolding run bit link tab zeros every without bothRow intersection eitherRow union gathered throughRow composeRow compose within pairFull rowFull full connected rowSame same rows sooner later after apart arriveBy departBy arrival departure arrivals departures composeTimes ownTime ownTimes inTime rowInTime allInTime allowed cleanRow clean lentPick cleanPick cleanPicks widthOf ownOf joinOf passOf part putPart composeAt copyAt zeroAt ownAt zeroed fresh pickTaken startMoved turned charged tested between ladder rebuilt joinedArea joined extendedBy extended written entered windowArea windowed judged tried cleared minStep raisedBy raised again climb climbed maxStep stepped reported stop openedArea wholeVerdict unions wholeStart wholeAfter wholeReport wholeSays
+unfolding run bit link tab zeros every without bothRow intersection eitherRow union gathered throughRow composeRow compose within pairFull rowFull full connected rowSame same rows sooner later after apart arriveBy departBy arrival departure arrivals departures composeTimes ownTime ownTimes inTime rowInTime allInTime allowed cleanRow clean lentPick cleanPick cleanPicks widthOf ownOf joinOf passOf part putPart composeAt copyAt zeroAt ownAt zeroed fresh pickTaken startMoved turned charged tested between ladder rebuilt joinedArea joined extendedBy extended written entered windowArea windowed judged tried cleared minStep raisedBy raised again climb climbed maxStep stepped reported stop openedArea wholeVerdict unions wholeStart stepsOf wholeAfter wholeReport wholeSays
 cases = refl
 
 -- the table of reach of A is words 2, 1

@@ -10,7 +10,7 @@ use Rattle.lists.specs.Tab.{zeros}
 use Rattle.links.specs.Tables.{union}
 use Rattle.checks.specs.Checks.{clean, listed}
 use Rattle.checks.specs.Lent.{lentPick, cleanPicks}
-use Rattle.measures.specs.Kit.{kit, widthOf, either}
+use Rattle.measures.specs.Kit.{Kit, kit, widthOf, either}
 use Rattle.area.specs.Parts.{part, putPart, zeroed}
 use Rattle.place.specs.declared.Place.{Place}
 use Rattle.place.specs.Places.{fresh, nowhere, charged, between, soundPlace}
@@ -98,24 +98,25 @@ unfoldable pub unions : ℕ → List ℕ → ℕ → List ℕ
 unions n w zero = zeros n
 unions n w (suc k) = union n (unions n w k) (lentPick n w k)
 
--- before pick 1: under measure 2 the union of all picks is the footprint, at a cost of m - 1
-unfoldable pub wholeStart : ℕ → ℕ → List ℕ → List ℕ → State
-wholeStart n measure w a =
-    state (charged (fresh measure n (length w / n)) (either (eqb measure 2) (length w / n - 1) 0))
-    (openedArea n measure (length w / n) (unions n w (length w / n)) a)
+-- before pick 1 of m: under measure 2 the union of all picks is the footprint, at a cost of m - 1
+unfoldable pub wholeStart : ℕ → ℕ → ℕ → List ℕ → List ℕ → State
+wholeStart n measure m w a = state (charged (fresh measure n m) (either (eqb measure 2) (m - 1) 0)) (openedArea n measure m (unions n w m) a)
+
+-- one step for each of the first k picks, from st on
+unfoldable pub stepsOf : Kit → ℕ → List ℕ → ℕ → State → State
+stepsOf K n w zero st = st
+stepsOf K n w (suc k) st = stepped K (lentPick n w k) (stepsOf K n w k st)
 
 -- after the first k picks
-unfoldable pub wholeAfter : ℕ → ℕ → List ℕ → List ℕ → ℕ → State
-wholeAfter n measure w a zero = wholeStart n measure w a
-wholeAfter n measure w a (suc k) = stepped (kit measure n) (lentPick n w k) (wholeAfter n measure w a k)
+unfoldable pub wholeAfter : ℕ → ℕ → ℕ → List ℕ → List ℕ → ℕ → State
+wholeAfter n measure m w a k = stepsOf (kit measure n) n w k (wholeStart n measure m w a)
 
 -- what is answered where no cause refuses
-unfoldable pub wholeReport : ℕ → ℕ → List ℕ → List ℕ → Outcome
-wholeReport n measure w a =
-    reportSays (reported (wholeAfter n measure w a (length w / n) .place)) (wholeAfter n measure w a (length w / n) .place)
+unfoldable pub wholeReport : ℕ → ℕ → ℕ → List ℕ → List ℕ → Outcome
+wholeReport n measure m w a = reportSays (reported (wholeAfter n measure m w a m .place)) (wholeAfter n measure m w a m .place)
 
 unfoldable pub wholeSays : ℕ → ℕ → List ℕ → List ℕ → Outcome
-wholeSays n measure w a = either (eqb (wholeVerdict n measure w a) 0) (wholeReport n measure w a) (outcome (wholeVerdict n measure w a) 0 0 0)
+wholeSays n measure w a = either (eqb (wholeVerdict n measure w a) 0) (wholeReport n measure (length w / n) w a) (outcome (wholeVerdict n measure w a) 0 0 0)
 
 -- the needed words end zero
 unfoldable pub wholeLeaves : ℕ → ℕ → List ℕ → List ℕ → List ℕ

@@ -3,12 +3,14 @@ use mathlib.Core.List.{List}
 use mathlib.Core.Path.{_≡_}
 use Prim.Native.Nat.{ℕ, _+_, _*_, _≤_, _<_}
 use lib.Dec.{T}
-use lib.ListN.{length}
+use lib.ListN.{length, drop}
 use Rattle.checks.specs.Checks.{clean, listed}
 use Rattle.checks.specs.Lent.{cleanPicks}
+use Rattle.measures.specs.Kit.{widthOf}
 use Rattle.area.specs.Parts.{part}
 use Rattle.place.specs.declared.Place.{Place}
 use Rattle.place.specs.Places.{Sound}
+use Rattle.steps.specs.Fit.{Ready}
 use Rattle.calls.specs.Calls.{needed}
 
 -- of the area that a walk starts from
@@ -50,3 +52,18 @@ pub record Runs (n measure m : ℕ) (w a : List ℕ) : Type 0 where
   pub cap : m ≤ 4096
   pub room : needed measure n m ≤ length a
   pub clean : T (cleanPicks n w m)
+
+-- of the steps of a whole run: a place that has taken no pick, and words for m of them
+pub record Starts (p : Place) (m : ℕ) (w a : List ℕ) : Type 0 where
+  pub ready : Ready p (length a)
+  pub none-taken : p .taken .0 ≡ 0
+  pub limit : p .limit ≡ m
+  pub words : m * p .boards ≤ length w
+  pub comps : p .compositions .0 ≤ 8192
+  pub tests : p .tests .0 ≤ 8192
+
+-- what the steps of a whole run leave, besides the state
+pub record Ends (p : Place) (m : ℕ) (a : List ℕ) (q : Place) (b : List ℕ) : Type 0 where
+  pub inside : 1 ≤ m → q .start .0 ≤ q .taken .0
+  pub all-taken : q .taken .0 ≡ m
+  pub beyond : drop ((p .limit + 4) * widthOf (p .measure) (p .boards)) b ≡ drop ((p .limit + 4) * widthOf (p .measure) (p .boards)) a

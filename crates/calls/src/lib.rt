@@ -1,16 +1,18 @@
 // The calls of the walk: opening, pick, length, whole run. None requires anything.
 ghost use mathlib.Core.Path.{_≡_};
-ghost use mathlib.Core.Bool.{false};
-ghost use Prim.Native.Nat.{_+_, _*_, _/_, _%_, _≤_, _<_};
+ghost use Prim.Native.Nat.{_+_, _-_, _*_, _≤_, _<_};
 ghost use lib.ListN.{length};
-ghost use lib.Dec.{ltb};
+ghost use lib.Dec.{eqb, ltb};
+ghost use Rattle.lists.specs.Tab.{padded};
 ghost use Rattle.checks.specs.Checks.{listed};
-ghost use Rattle.area.specs.Parts.{part};
+ghost use Rattle.measures.specs.Kit.{either};
+ghost use Rattle.area.specs.Parts.{part, zeroed};
 ghost use Rattle.place.specs.Places.{fresh, charged};
-ghost use Rattle.steps.specs.Walk.{State, state, kitOf, stepped, reported};
+ghost use Rattle.steps.specs.Walk.{kitOf, reported};
+ghost use Rattle.steps.specs.Fit.{Does};
 ghost use Rattle.calls.specs.Answers.{openingSays, takingSays, answerSays, verdictSays};
-ghost use Rattle.calls.specs.Fit.{Clears, Takes, Runs};
-ghost use Rattle.calls.specs.Calls.{stop, needed, openVerdict, openedArea, openSays, openLeaves, pickVerdict, pickSays, pickLeaves, reportSays, lengthSays, wholeVerdict, unions, wholeStart, wholeAfter, wholeReport, wholeSays, wholeLeaves};
+ghost use Rattle.calls.specs.Fit.{Clears, Runs, Starts, Ends};
+ghost use Rattle.calls.specs.Calls.{stop, needed, openVerdict, openedArea, openSays, openLeaves, pickVerdict, pickSays, pickLeaves, reportSays, lengthSays, wholeVerdict, unions, stepsOf, wholeReport, wholeSays, wholeLeaves};
 use model::Compositions;
 use model::Refusal;
 use model::Tests;
@@ -213,5 +215,114 @@ pub fn length(p: Place) -> Measured
     Measured {
         place: p,
         answer: answer,
+    }
+}
+
+// ---- whole run
+
+// The causes of a whole run, in their order: 1, 2, 10, 8, 3, 4, 5.
+fn whole_verdict(n: usize, measure: usize, words: &[u32], area: &[u32]) -> Verdict
+    ensures { λ r. ⌜ verdictSays r ≡ wholeVerdict n measure (now (words .entry)) (now (area .entry)) ⌝ }
+{
+    if !place::is_between(2, n, 32) {
+        return Verdict::Refuse(Refusal::Boards);
+    }
+    if !place::is_between(1, measure, 4) {
+        return Verdict::Refuse(Refusal::Measure);
+    }
+    if words.len() % n != 0 {
+        return Verdict::Refuse(Refusal::Shape);
+    }
+    let m = words.len() / n;
+    if m == 0 {
+        return Verdict::Refuse(Refusal::NoPick);
+    }
+    if 4096 < m {
+        return Verdict::Refuse(Refusal::Picks);
+    }
+    if is_short(area, measure, n, m) {
+        return Verdict::Refuse(Refusal::Room);
+    }
+    if !checks::are_clean(words, n, m) {
+        return Verdict::Refuse(Refusal::Forbidden);
+    }
+    Verdict::Sound
+}
+
+// The union of m picks, by value, and zeros up to 32.
+fn union_of(words: &[u32], n: usize, m: usize) -> [u32; 32]
+    requires { ⌜ (n ≤ 32) × ((m ≤ 4096) × (m * n ≤ length (now words))) ⌝ }
+    ensures { λ r. ⌜ r ≡ padded 32 (unions n (now (words .entry)) m) ⌝ }
+{
+    let mut t = lists::no_words();
+    for k in 0..m {
+        let at = k * n;
+        links::unite_into(&mut t[0..n], &words[at..at + n], n);
+    }
+    t
+}
+
+// The area that a whole run starts from. Only measure 2 has a footprint: the union of all picks.
+fn whole_area(n: usize, measure: usize, words: &[u32], m: usize, area: &mut [u32])
+    requires { ⌜ Runs n measure m (now words) (now area) ⌝ }
+    ensures { λ _. ⌜ now (area .exit) ≡ openedArea n measure m (unions n (now (words .entry)) m) (now (area .entry)) ⌝ }
+{
+    if measure != 2 {
+        open_area(n, measure, m, words, area);
+        return;
+    }
+    let footprint = union_of(words, n, m);
+    open_area(n, measure, m, &footprint[0..n], area);
+}
+
+// The place that a whole run starts from: under measure 2 its footprint has cost m - 1.
+fn whole_place(n: usize, measure: usize, m: usize) -> Place
+    requires { ⌜ (1 ≤ measure) × ((measure ≤ 4) × ((1 ≤ m) × (m ≤ 4096))) ⌝ }
+    ensures { λ r. ⌜ r ≡ charged (fresh measure n m) (either (eqb measure 2) (m - 1) 0) ⌝ }
+{
+    let p = Place::open(measure, n, m);
+    if measure == 2 {
+        return p.charged(m - 1);
+    }
+    p.charged(0)
+}
+
+// All picks, one after the other, by the unchecked step: a count that starts at m - 1 would be refused as 16.
+fn whole_steps(p: Place, area: &mut [u32], words: &[u32], m: usize) -> Place
+    requires { ⌜ Starts p m (now words) (now area) ⌝ }
+    ensures { λ r. ⌜ Does (stepsOf (kitOf p) (p .boards) (now (words .entry)) m) p (now (area .entry)) r (now (area .exit)) × Ends p m (now (area .entry)) r (now (area .exit)) ⌝ }
+{
+    let n = p.boards;
+    let mut q = p;
+    for k in 0..m {
+        let at = k * n;
+        q = steps::step(q, area, &words[at..at + n]);
+    }
+    q
+}
+
+// A whole run that nothing refuses. It never reads what the area held, and the needed words end zero.
+fn whole_run(n: usize, measure: usize, words: &[u32], m: usize, area: &mut [u32]) -> Answer
+    requires { ⌜ Runs n measure m (now words) (now area) ⌝ }
+    ensures { λ r. ⌜ (answerSays r ≡ wholeReport n measure m (now (words .entry)) (now (area .entry))) × (now (area .exit) ≡ zeroed (needed measure n m) (now (area .entry))) ⌝ }
+{
+    whole_area(n, measure, words, m, area);
+    let p = whole_place(n, measure, m);
+    let q = whole_steps(p, area, words, m);
+    let e = measures::width(measure, n);
+    area::zero_first(area, (m + 4) * e);
+    report(q)
+}
+
+// The length of a recording lent whole, n words a pick, with the counts.
+pub fn whole(n: usize, measure: usize, words: &[u32], area: &mut [u32]) -> Answer
+    ensures { λ r. ⌜ (answerSays r ≡ wholeSays n measure (now (words .entry)) (now (area .entry))) × (now (area .exit) ≡ wholeLeaves n measure (now (words .entry)) (now (area .entry))) ⌝ }
+{
+    match whole_verdict(n, measure, words, area) {
+        Verdict::Sound => {
+            let m = words.len() / n;
+            whole_run(n, measure, words, m, area)
+        }
+        Verdict::Refuse(c) => Answer::Refused(c, Compositions(0), Tests(0)),
     }
 }

@@ -31,7 +31,8 @@ use Rattle.law.specs.Unlimited.{reach-agree, round-agree}
 use Rattle.law.specs.MinWalk.{MinAnswer}
 use Rattle.law.specs.MaxWalk.{MaxAnswer}
 use Rattle.law.specs.Runs.{walked}
-use Rattle.law.specs.Opened.{start, listed, opened-list}
+use Rattle.calls.proofs.Opened.{opened-list}
+use Rattle.law.specs.Opened.{start, listed}
 use Rattle.law.specs.Walks.{min-answer, min-tests, min-compositions, min-sound, max-answer, max-tests-within, max-compositions, max-sound}
 use Rattle.law.specs.Correct.{Passes, IsLength, Right, answered, none-exists, Counted}
 

@@ -29,7 +29,8 @@ use Rattle.calls.specs.Fit.{Opens, Takes}
 use Rattle.calls.proofs.Verdicts.{open-sound, pick-sound}
 use Rattle.steps.proofs.Frames.{Room, Frame, rise, stepped-frame, Untouched}
 use Rattle.law.specs.Runs.{Kept, stepped-kept, walked, walked-kept}
-use Rattle.law.specs.Opened.{start, opened-list, opened-length}
+use Rattle.calls.proofs.Opened.{opened-list}
+use Rattle.law.specs.Opened.{start}
 use Rattle.law.specs.Correct.{Passes, Right, Counted}
 use Rattle.law.specs.Measures.{Fits, Charge, Told, told}
 

@@ -17,6 +17,7 @@ use Rattle.area.proofs.Laws.{put-length, put-same, put-other, put-beyond, zeroe
 use Rattle.place.specs.Places.{fresh, charged}
 use Rattle.steps.specs.Walk.{State, state}
 use Rattle.calls.specs.Calls.{needed, openedArea}
+use Rattle.calls.proofs.Opened.{opened-length, opened-part}
 use Rattle.steps.proofs.Frames.{either-ind}
 use Rattle.law.specs.Ladders.{Laddered, holds}
 use Rattle.law.specs.MinWalk.{Stands}
@@ -27,64 +28,21 @@ module _ (n measure limit : ℕ) (footprint a : List ℕ) (room : needed measure
   abbrev pub start : ℕ → State
   start c = state (charged (fresh measure n limit) c) (openedArea n measure limit footprint a)
 
-  abbrev E : ℕ
-  E = widthOf measure n
-
-  abbrev z : List ℕ
-  z = zeroed (needed measure n limit) a
-
-  z-room : (limit + 4) * E ≤ length z
-  z-room = let e = zeroed-length (needed measure n limit) a room in omega arith
-
-  fills : T (eqb measure 2) → length footprint ≡ E
-  fills t = let m : measure ≡ 2 = eqb→eq measure 2 t in sym (width-links measure n (λ x. omega arith) ∙ list m)
-
-  pub opened-length : length (openedArea n measure limit footprint a) ≡ length a
-  unfolding openedArea
-  opened-length =
-      either-ind (λ (x : List ℕ). length x ≡ length a) (eqb measure 2) (putPart E z (limit + 3) footprint) z
-      (λ t. put-length E (limit + 4) z z-room (limit + 3) (omega arith) (omega arith) footprint (fills t) ∙ zeroed-length (needed measure n limit) a room)
-      (λ t. zeroed-length (needed measure n limit) a room)
-
-  -- each part but that of the footprint is zero
-  pub opened-part : (i : ℕ) → 1 ≤ i → i ≤ limit + 4 → i ≢ limit + 3 → part E (openedArea n measure limit footprint a) i ≡ zeros E
-  unfolding openedArea
-  opened-part i x y ne =
-      either-ind (λ (q : List ℕ). part E q i ≡ zeros E) (eqb measure 2) (putPart E z (limit + 3) footprint) z
-      (λ t. put-other E (limit + 4) z z-room (limit + 3) (omega arith) (omega arith) footprint (fills t) i x ne ∙ zeroed-part E (limit + 4) a i x y)
-      (λ t. zeroed-part E (limit + 4) a i x y)
-
-  -- and under measure 2 that of the footprint holds it
-  pub opened-list : measure ≡ 2 → part E (openedArea n measure limit footprint a) (limit + 3) ≡ footprint
-  unfolding openedArea
-  opened-list m =
-      either-ind (λ (q : List ℕ). part E q (limit + 3) ≡ footprint) (eqb measure 2) (putPart E z (limit + 3) footprint) z
-      (λ t. put-same E (limit + 4) z z-room (limit + 3) (omega arith) (omega arith) footprint (fills t))
-      (λ t. absurd (t (eq-refl m)))
-
-  -- words beyond the needed ones are as they were
-  pub opened-beyond : drop (needed measure n limit) (openedArea n measure limit footprint a) ≡ drop (needed measure n limit) a
-  unfolding openedArea
-  opened-beyond =
-      either-ind (λ (q : List ℕ). drop (needed measure n limit) q ≡ drop (needed measure n limit) a) (eqb measure 2) (putPart E z (limit + 3) footprint) z
-      (λ t. put-beyond E (limit + 4) z z-room (limit + 3) (omega arith) (omega arith) footprint (fills t) ∙ zeroed-beyond (needed measure n limit) a room)
-      (λ t. zeroed-beyond (needed measure n limit) a room)
-
   -- what part limit + 3 holds
   abbrev pub listed : List ℕ
-  listed = part E (openedArea n measure limit footprint a) (limit + 3)
+  listed = part (widthOf measure n) (openedArea n measure limit footprint a) (limit + 3)
 
   module _ (own : ℕ → List ℕ) (win : ℕ → ℕ → List ℕ) where
     opened-laddered : (c : ℕ) → Laddered (kit measure n) own win listed (start c)
     unfolding fresh charged
     opened-laddered c = record {
-      frame = record { start = le-refl 1; top = omega arith; room = let e = opened-length in omega arith; list = refl };
+      frame = record { start = le-refl 1; top = omega arith; room = let e = opened-length n measure limit footprint a room list in omega arith; list = refl };
       bound = le-refl 0;
       near = le-refl 1;
       lefts = λ i x y. absurd (omega arith);
       owns = λ i x y. absurd (omega arith);
       rights = λ x. absurd (omega arith);
-      empty = λ x. opened-part (limit + 1) (omega arith) (omega arith) (λ e. omega arith);
+      empty = λ x. opened-part n measure limit footprint a room list (limit + 1) (omega arith) (omega arith) (λ e. omega arith);
     }
 
     pub opened-stands : (P : ℕ → ℕ → Type 0) (c : ℕ) → Stands (kit measure n) own win listed P c (start c)
@@ -94,7 +52,7 @@ module _ (n measure limit : ℕ) (footprint a : List ℕ) (room : needed measure
       ahead = le-refl 1;
       inside = λ h. absurd (omega arith);
       window = λ h. absurd (omega arith);
-      spare = opened-part (limit + 4) (omega arith) (le-refl (limit + 4)) (λ e. omega arith);
+      spare = opened-part n measure limit footprint a room list (limit + 4) (omega arith) (le-refl (limit + 4)) (λ e. omega arith);
       good = λ t. absurd t;
       bad = λ h t q. omega arith;
       before = λ i x y. absurd (omega arith);
@@ -110,7 +68,7 @@ module _ (n measure limit : ℕ) (footprint a : List ℕ) (room : needed measure
       ahead = le-refl 1;
       inside = λ h. absurd (omega arith);
       window = λ h. absurd (omega arith);
-      spare = opened-part (limit + 4) (omega arith) (le-refl (limit + 4)) (λ e. omega arith);
+      spare = opened-part n measure limit footprint a room list (limit + 4) (omega arith) (le-refl (limit + 4)) (λ e. omega arith);
       good = λ h. absurd (omega arith);
       upto = λ i j x y q. absurd (omega arith);
       above = λ t. absurd t;

@@ -17,8 +17,7 @@ use Rattle.model.proofs.Logic.{tr, F→≡, or-l, or-r, or-cases}
 use Rattle.model.proofs.Links.{link-from}
 use Rattle.model.proofs.Windows.{pick-at}
 use Rattle.model.proofs.Monotone.{Listed}
-use Rattle.lists.proofs.Tab.{length-tab, length-zeros}
-use Rattle.links.specs.Tables.{union, eitherRow}
+use Rattle.links.specs.Tables.{union}
 use Rattle.links.proofs.Bits.{zeros-none, zeros-clean, union-link, union-clean}
 use Rattle.checks.specs.Lent.{lentPick, lentPicks, cleanPicks}
 use Rattle.checks.proofs.Lent.{length-lent, lent-recording, lent-at}
@@ -28,9 +27,10 @@ use Rattle.place.specs.declared.Place.{Place}
 use Rattle.place.specs.Places.{fresh, charged}
 use Rattle.steps.specs.Walk.{State, stepped, reported}
 use Rattle.calls.specs.Answers.{Outcome, outcome}
-use Rattle.calls.specs.Calls.{needed, wholeVerdict, unions, wholeStart, wholeAfter, wholeReport, wholeSays, wholeLeaves, reportSays}
+use Rattle.calls.specs.Calls.{needed, wholeVerdict, unions, stepsOf, wholeStart, wholeAfter, wholeReport, wholeSays, wholeLeaves, reportSays}
 use Rattle.calls.specs.Fit.{Runs}
 use Rattle.calls.proofs.Verdicts.{whole-sound}
+use Rattle.calls.proofs.Loops.{length-unions}
 use Rattle.law.specs.Runs.{walked}
 use Rattle.law.specs.Opened.{start}
 use Rattle.law.specs.Correct.{Passes, IsLength, Right, answered, none-exists, Counted}
@@ -45,11 +45,6 @@ abbrev pub listCost : ℕ → ℕ → ℕ
 listCost measure m = either (eqb measure 2) (m - 1) 0
 
 -- ---- the union of all picks
-
-length-unions : (n : ℕ) (w : List ℕ) (k : ℕ) → length (unions n w k) ≡ n
-unfolding unions union
-length-unions n w zero = length-zeros n
-length-unions n w (suc k) = length-tab (eitherRow (unions n w k) (lentPick n w k)) n
 
 module _ (n : ℕ) (w : List ℕ) (m : ℕ) (room : m * n ≤ length w) (ok : T (cleanPicks n w m)) where
   abbrev r : List (List ℕ)
@@ -107,8 +102,8 @@ whole-charge (suc (suc x)) m = tt
 
 -- the run is a walk over the recording
 whole-walks : (n measure : ℕ) (w a : List ℕ) (room : needed measure n (length w / n) ≤ length a) (list : measure ≡ 2 → n ≡ length (unions n w (length w / n))) (k : ℕ) → k ≤ length w / n
-    → wholeAfter n measure w a k ≡ walked (kit measure n) (recording n w) (start n measure (length w / n) (unions n w (length w / n)) a room list (listCost measure (length w / n))) k
-unfolding wholeAfter wholeStart walked
+    → wholeAfter n measure (length w / n) w a k ≡ walked (kit measure n) (recording n w) (start n measure (length w / n) (unions n w (length w / n)) a room list (listCost measure (length w / n))) k
+unfolding wholeAfter stepsOf wholeStart walked
 whole-walks n measure w a room list zero h = refl
 whole-walks n measure w a room list (suc k) h =
     ap (stepped (kit measure n) (lentPick n w k)) (whole-walks n measure w a room list k (omega arith))
@@ -135,7 +130,7 @@ whole n measure w a e =
     let d = told n m (f .some-boards) (f .few) (f .cap) (unions n w m) a (recording n w) (rec n w m words (f .clean)) (omega arith) measure (f .measure-low) (f .measure-high) (f .room) list (listCost measure m)
     (whole-charge measure m) (whole-fits n w m words (f .clean) measure) m (f .some-picks) (omega arith) in
     let q = whole-walks n measure w a (f .room) list m (le-refl m) in
-    let z : wholeSays n measure w a ≡ wholeReport n measure w a = ap (λ (b : ℕ). either (eqb b 0) (wholeReport n measure w a) (outcome b 0 0 0)) e in
+    let z : wholeSays n measure w a ≡ wholeReport n measure (length w / n) w a = ap (λ (b : ℕ). either (eqb b 0) (wholeReport n measure (length w / n) w a) (outcome b 0 0 0)) e in
     record {
       recorded = rec n w m words (f .clean);
       picks = k;

@@ -32,7 +32,8 @@ pub fn zero_over(out: &mut [u32], n: usize)
     }
 }
 
-fn no_words() -> [u32; 32]
+// Thirty-two zeros: a function of its own, so that no proof writes them out.
+pub fn no_words() -> [u32; 32]
     ensures { λ r. ⌜ r ≡ zeros 32 ⌝ }
 {
     [0u32; 32]

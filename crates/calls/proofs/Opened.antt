@@ -1,0 +1,60 @@
+-- The area as opening leaves it, part by part. Assumes nothing.
+use mathlib.Core.Path.{_≡_, sym, _∙_}
+use mathlib.Core.Logic.{_≢_}
+use mathlib.Core.List.{List}
+use Prim.Native.Nat.{ℕ, _+_, _*_, _≤_}
+use native.Mathlib.Omega.{arith}
+use lib.Dec.{T, eqb, eqb→eq}
+use lib.ListN.{length, drop}
+use Rattle.model.proofs.Logic.{eq-refl}
+use Rattle.lists.specs.Tab.{zeros}
+use Rattle.measures.specs.Kit.{widthOf}
+use Rattle.measures.proofs.Words.{width-links}
+use Rattle.area.specs.Parts.{part, putPart, zeroed}
+use Rattle.area.proofs.Laws.{put-length, put-same, put-other, put-beyond, zeroed-length, zeroed-part, zeroed-beyond}
+use Rattle.steps.proofs.Frames.{either-ind}
+use Rattle.calls.specs.Calls.{needed, openedArea}
+
+module _ (n measure limit : ℕ) (footprint a : List ℕ) (room : needed measure n limit ≤ length a) (list : measure ≡ 2 → n ≡ length footprint) where
+  abbrev E : ℕ
+  E = widthOf measure n
+
+  abbrev z : List ℕ
+  z = zeroed (needed measure n limit) a
+
+  z-room : (limit + 4) * E ≤ length z
+  z-room = let e = zeroed-length (needed measure n limit) a room in omega arith
+
+  fills : T (eqb measure 2) → length footprint ≡ E
+  fills t = let m : measure ≡ 2 = eqb→eq measure 2 t in sym (width-links measure n (λ x. omega arith) ∙ list m)
+
+  pub opened-length : length (openedArea n measure limit footprint a) ≡ length a
+  unfolding openedArea
+  opened-length =
+      either-ind (λ (x : List ℕ). length x ≡ length a) (eqb measure 2) (putPart E z (limit + 3) footprint) z
+      (λ t. put-length E (limit + 4) z z-room (limit + 3) (omega arith) (omega arith) footprint (fills t) ∙ zeroed-length (needed measure n limit) a room)
+      (λ t. zeroed-length (needed measure n limit) a room)
+
+  -- each part but that of the footprint is zero
+  pub opened-part : (i : ℕ) → 1 ≤ i → i ≤ limit + 4 → i ≢ limit + 3 → part E (openedArea n measure limit footprint a) i ≡ zeros E
+  unfolding openedArea
+  opened-part i x y ne =
+      either-ind (λ (q : List ℕ). part E q i ≡ zeros E) (eqb measure 2) (putPart E z (limit + 3) footprint) z
+      (λ t. put-other E (limit + 4) z z-room (limit + 3) (omega arith) (omega arith) footprint (fills t) i x ne ∙ zeroed-part E (limit + 4) a i x y)
+      (λ t. zeroed-part E (limit + 4) a i x y)
+
+  -- and under measure 2 that of the footprint holds it
+  pub opened-list : measure ≡ 2 → part E (openedArea n measure limit footprint a) (limit + 3) ≡ footprint
+  unfolding openedArea
+  opened-list m =
+      either-ind (λ (q : List ℕ). part E q (limit + 3) ≡ footprint) (eqb measure 2) (putPart E z (limit + 3) footprint) z
+      (λ t. put-same E (limit + 4) z z-room (limit + 3) (omega arith) (omega arith) footprint (fills t))
+      (λ t. absurd (t (eq-refl m)))
+
+  -- words beyond the needed ones are as they were
+  pub opened-beyond : drop (needed measure n limit) (openedArea n measure limit footprint a) ≡ drop (needed measure n limit) a
+  unfolding openedArea
+  opened-beyond =
+      either-ind (λ (q : List ℕ). drop (needed measure n limit) q ≡ drop (needed measure n limit) a) (eqb measure 2) (putPart E z (limit + 3) footprint) z
+      (λ t. put-beyond E (limit + 4) z z-room (limit + 3) (omega arith) (omega arith) footprint (fills t) ∙ zeroed-beyond (needed measure n limit) a room)
+      (λ t. zeroed-beyond (needed measure n limit) a room)

@@ -1,0 +1,53 @@
+-- `calls::whole` meets its contract: the verdict, and the run where nothing refuses.
+-- Assumes nothing.
+use mathlib.Core.Path.{_≡_, sym, ap, _∙_}
+use native.Mathlib.Omega.{arith}
+use Rattle.calls.specs.Answers.{verdictSays}
+use Rattle.calls.specs.Calls.{wholeSays, wholeLeaves}
+use Rattle.calls.proofs.Verdicts.{whole-sound, number-some}
+use borrow.Author.Needs.{needs}
+use Rattle.calls.proofs.whole.Statement.{statement}
+use Rattle.calls.proofs.whole.Tie as tie
+
+whole-verdict-requires : tie.Need-whole-verdict-requires
+whole-verdict-requires c κs = search needs
+
+enum-told : tie.Need-enum-told
+enum-told c = search needs
+
+div-m : tie.Need-div-m
+div-m c = let t = whole-sound _ _ _ _ (sym (c .before .before .whole-verdict .ensures) ∙ ap verdictSays (c .enum-told .given .1)) in let b = t .some-boards in omega arith
+
+whole-run-requires : tie.Need-whole-run-requires
+whole-run-requires c κs = whole-sound _ _ _ _ (sym (c .before .before .before .whole-verdict .ensures) ∙ ap verdictSays (c .before .enum-told .given .1))
+
+enum-known-c : tie.Need-enum-known-c
+enum-known-c c = search needs
+
+same-length : tie.Need-same-length
+same-length c = search needs
+
+returns : tie.Need-returns
+unfolding wholeSays wholeLeaves
+returns c = let e = sym (c .before .before .before .before .before .before .whole-verdict .ensures) ∙ ap verdictSays (c .before .before .before .before .enum-told .given .1) in simp e (c .before .before .whole-run .ensures .0, c .before .before .whole-run .ensures .1)
+
+same-length-2 : tie.Need-same-length-2
+same-length-2 c = search needs
+
+returns-2 : tie.Need-returns-2
+unfolding wholeSays wholeLeaves
+returns-2 c = let e = sym (c .before .before .before .whole-verdict .ensures) ∙ ap verdictSays (c .before .c .given .1) in (simp (e, number-some (c .before .c .given .0 .0)), simp (e, number-some (c .before .c .given .0 .0)))
+
+pub whole-spec : {M : Type 1} → statement M
+whole-spec =
+    tie.close
+    (tie.spec
+    whole-verdict-requires
+    enum-told
+    div-m
+    whole-run-requires
+    enum-known-c
+    same-length
+    returns
+    same-length-2
+    returns-2)

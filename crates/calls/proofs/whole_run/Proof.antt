@@ -1,0 +1,59 @@
+-- `calls::whole_run` meets its contract: the start, the steps, the words set to zero, the report.
+-- Assumes nothing.
+use mathlib.Core.Path.{_≡_, sym, ap, _∙_, subst}
+use native.Mathlib.Omega.{arith}
+use Rattle.place.specs.declared.Place.{Place}
+use Rattle.steps.specs.Walk.{reported}
+use Rattle.area.specs.Parts.{zeroed}
+use Rattle.calls.specs.Calls.{reportSays, wholeReport}
+use Rattle.calls.proofs.Verdicts.{needed-most}
+use Rattle.calls.proofs.Loops.{whole-starts, whole-ends, whole-beyond, list-cost}
+use borrow.Author.Needs.{needs}
+use Rattle.calls.proofs.whole_run.Statement.{statement}
+use Rattle.calls.proofs.whole_run.Tie as tie
+
+whole-area-requires : tie.Need-whole-area-requires
+whole-area-requires c κs = search needs
+
+whole-place-requires : tie.Need-whole-place-requires
+whole-place-requires c κs = search needs
+
+whole-steps-requires : tie.Need-whole-steps-requires
+whole-steps-requires c κs = whole-starts _ _ _ _ _ _ (c .before .before .before .before .before .before .before .before .pre) (list-cost (c .before .before .before .before .before .before .before .before .args .measure) (c .before .before .before .before .before .before .before .before .args .m) (c .before .before .before .before .before .before .before .before .pre .cap)) (c .before .whole-place .ensures) (c .before .before .before .before .whole-area .kept .1 .1 .1 .1 .0)
+
+width-requires : tie.Need-width-requires
+width-requires c κs = search needs
+
+add-zero-first : tie.Need-add-zero-first
+add-zero-first c = search needs
+
+mul-zero-first : tie.Need-mul-zero-first
+mul-zero-first c = omega (arith, needed-most (c .before .before .before .before .before .before .before .before .before .before .before .before .before .args .measure) (c .before .before .before .before .before .before .before .before .before .before .before .before .before .args .n) (c .before .before .before .before .before .before .before .before .before .before .before .before .before .args .m) (c .before .width .result) (c .before .before .before .before .before .before .before .before .before .before .before .before .before .pre .few) (c .before .before .before .before .before .before .before .before .before .before .before .before .before .pre .cap) (c .before .width .ensures))
+
+zero-first-requires : tie.Need-zero-first-requires
+zero-first-requires c κs = rw (c .before .width .ensures) (let k1 = c .before .before .before .before .whole-steps .kept .1 .0 in let k0 = c .before .before .before .before .before .before .before .before .before .whole-area .kept .1 .1 .1 .1 .0 in let r = c .before .before .before .before .before .before .before .before .before .before .before .before .before .pre .room in omega arith)
+
+report-requires : tie.Need-report-requires
+report-requires c κs = let i = c .before .before .before .before .before .before .before .whole-steps .ensures .1 .inside (c .before .before .before .before .before .before .before .before .before .before .before .before .before .before .before .before .pre .some-picks) in let t = c .before .before .before .before .before .before .before .whole-steps .ensures .1 .all-taken in let k = c .before .before .before .before .before .before .before .before .before .before .before .before .before .before .before .before .pre .cap in (i, omega arith)
+
+same-length : tie.Need-same-length
+same-length c = search needs
+
+returns : tie.Need-returns
+unfolding wholeReport
+returns c = (c .report .ensures ∙ ap (λ (x : Place). reportSays (reported x) x) (whole-ends (c .before .before .before .before .before .before .before .before .before .before .before .before .before .before .before .before .before .args .n) (c .before .before .before .before .before .before .before .before .before .before .before .before .before .before .before .before .before .args .measure) (c .before .before .before .before .before .before .before .before .before .before .before .before .before .before .before .before .before .args .m) (c .before .before .before .before .before .before .before .before .before .before .before .before .before .before .before .before .before .args .words .now) (c .before .before .before .before .before .before .before .before .before .before .before .before .before .before .before .before .before .args .area .now) (c .before .before .before .before .before .before .before .before .before .before .whole-place .ensures) (c .before .before .before .before .before .before .before .before .before .before .before .before .before .whole-area .ensures) (c .before .before .before .before .before .before .before .before .whole-steps .ensures .0)), c .before .before .before .zero-first .ensures ∙ rw (c .before .before .before .before .before .width .ensures) (whole-beyond (c .before .before .before .before .before .before .before .before .before .before .before .before .before .before .before .before .before .args .n) (c .before .before .before .before .before .before .before .before .before .before .before .before .before .before .before .before .before .args .measure) (c .before .before .before .before .before .before .before .before .before .before .before .before .before .before .before .before .before .args .m) (c .before .before .before .before .before .before .before .before .before .before .before .before .before .before .before .before .before .args .words .now) (c .before .before .before .before .before .before .before .before .before .before .before .before .before .before .before .before .before .args .area .now) _ (c .before .before .before .before .before .before .before .before .before .before .before .before .before .before .before .before .before .pre) (c .before .before .before .before .before .before .before .before .before .before .whole-place .ensures) (c .before .before .before .before .before .before .before .before .before .before .before .before .before .whole-area .ensures) (c .before .before .before .before .before .before .before .before .whole-steps .ensures .1 .beyond)))
+
+pub whole-run-spec : {M : Type 1} → statement M
+whole-run-spec =
+    tie.close
+    (tie.spec
+    whole-area-requires
+    whole-place-requires
+    whole-steps-requires
+    width-requires
+    add-zero-first
+    mul-zero-first
+    zero-first-requires
+    report-requires
+    same-length
+    returns)
