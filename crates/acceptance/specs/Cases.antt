@@ -17,6 +17,8 @@ use Rattle.steps.specs.Walk.{ladder, rebuilt, joinedArea, joined, extendedBy, e
 use Rattle.calls.specs.Answers.{Outcome, outcome}
 use Rattle.calls.specs.Calls.{stop, needed, openedArea, wholeVerdict, unions, wholeStart, stepsOf, wholeAfter, wholeReport, wholeSays}
 use Rattle.reach.specs.Tables.{tableOf}
+use Rattle.law.specs.Correct.{Passes, Right}
+use Rattle.law.specs.Whole.{recording, whole}
 
 -- the whole run in an area exact to the word
 unfoldable pub run : ℕ → ℕ → List ℕ → Outcome
@@ -48,7 +50,41 @@ pub cases : run 2 1 A ∷ run 2 2 A ∷ run 2 3 A ∷ run 2 4 A ∷ run 2 1 B �
 unfolding run bit link tab zeros every without bothRow intersection eitherRow union gathered throughRow composeRow compose within pairFull rowFull full connected rowSame same rows sooner later after apart arriveBy departBy arrival departure arrivals departures composeTimes ownTime ownTimes inTime rowInTime allInTime allowed cleanRow clean lentPick cleanPick cleanPicks widthOf ownOf joinOf passOf part putPart composeAt copyAt zeroAt ownAt zeroed fresh pickTaken startMoved turned charged tested between ladder rebuilt joinedArea joined extendedBy extended written entered windowArea windowed judged tried cleared minStep raisedBy raised again climb climbed maxStep stepped reported stop openedArea wholeVerdict unions wholeStart stepsOf wholeAfter wholeReport wholeSays
 cases = refl
 
+-- and each of the ten is right by the meaning: the length over all windows, or 9 where there is none
+abbrev pub RightCase : ℕ → ℕ → List ℕ → Type 0
+RightCase n measure w = Right measure (Passes measure n (unions n w (length w / n)) (recording n w)) (length w / n) (run n measure w)
+
+right-case : (n measure : ℕ) (w : List ℕ) → wholeVerdict n measure w (zeros (needed measure n (length w / n))) ≡ 0 → RightCase n measure w
+unfolding run
+right-case n measure w e = whole n measure w (zeros (needed measure n (length w / n))) e .right
+
+pub cases-right : RightCase 2 1 A × RightCase 2 2 A × RightCase 2 3 A × RightCase 2 4 A × RightCase 2 1 B × RightCase 2 3 B × RightCase 3 1 C × RightCase 2 1 D × RightCase 2 3 D × RightCase 2 2 F
+unfolding bit link tab zeros every without allowed cleanRow clean lentPick cleanPick cleanPicks widthOf between stop wholeVerdict
+cases-right = (
+  right-case 2 1 A refl,
+  right-case 2 2 A refl,
+  right-case 2 3 A refl,
+  right-case 2 4 A refl,
+  right-case 2 1 B refl,
+  right-case 2 3 B refl,
+  right-case 3 1 C refl,
+  right-case 2 1 D refl,
+  right-case 2 3 D refl,
+  right-case 2 2 F refl,
+)
+
 -- the table of reach of A is words 2, 1
 pub table-of-A : tableOf 2 A ≡ 2 ∷ 1 ∷ []
 unfolding tableOf reach composed composedFrom lentPicks lentPick bit link tab zeros without eitherRow gathered throughRow composeRow compose within
 table-of-A = refl
+
+-- what the ten leave open, checked by the bare definitions: measure 3 and measure 4 over three boards, and B under measure 4
+abbrev pub G : List ℕ
+G = 4 ∷ 1 ∷ 0 ∷ 0 ∷ 1 ∷ 2 ∷ []
+
+abbrev pub H : List ℕ
+H = 4 ∷ 1 ∷ 1 ∷ 2 ∷ 5 ∷ 0 ∷ []
+
+pub more-cases : run 3 3 G ∷ run 3 4 H ∷ run 2 4 B ∷ [] ≡ outcome 0 2 1 2 ∷ outcome 0 2 1 2 ∷ outcome 0 1 0 3 ∷ []
+unfolding run bit link tab zeros every without bothRow intersection eitherRow union gathered throughRow composeRow compose within pairFull rowFull full connected rowSame same rows sooner later after apart arriveBy departBy arrival departure arrivals departures composeTimes ownTime ownTimes inTime rowInTime allInTime allowed cleanRow clean lentPick cleanPick cleanPicks widthOf ownOf joinOf passOf part putPart composeAt copyAt zeroAt ownAt zeroed fresh pickTaken startMoved turned charged tested between ladder rebuilt joinedArea joined extendedBy extended written entered windowArea windowed judged tried cleared minStep raisedBy raised again climb climbed maxStep stepped reported stop openedArea wholeVerdict unions wholeStart stepsOf wholeAfter wholeReport wholeSays
+more-cases = refl

@@ -1,2 +1,4 @@
 -- The tender, stated once, to be read.
+pub mod Condition1
+pub mod Condition2
 pub mod Cases

@@ -1,0 +1,108 @@
+-- CONDITION 1 of the tender: for all input whatsoever each call answers by an answer of the listed kinds or by one of its numbered refusals, and a
+-- refused call changes nothing. That each call meets these definitions for every input, and always returns, is its proved contract: none has a
+-- `requires`. Assumes nothing.
+use mathlib.Core.Path.{_≡_, refl, sym, ap, _∙_, subst}
+use mathlib.Core.Bool.{Bool, true, false, _&&_, not}
+use mathlib.Core.Option.{Option, none, some}
+use mathlib.Core.List.{List, [], _∷_, _++_}
+use Prim.Native.Nat.{ℕ, zero, suc, _+_, _/_, _%_}
+use lib.Dec.{T, eqb, eqb→eq, leb, ltb}
+use lib.ListN.{length, drop}
+use Rattle.model.proofs.Logic.{F→≡}
+use Rattle.checks.specs.Checks.{clean, listed}
+use Rattle.checks.specs.Lent.{cleanPicks}
+use Rattle.measures.specs.Kit.{either}
+use Rattle.area.specs.Parts.{part}
+use Rattle.place.specs.declared.Place.{Place}
+use Rattle.place.specs.Places.{fresh, nowhere, between, soundPlace}
+use Rattle.steps.specs.Walk.{State, reported}
+use Rattle.calls.specs.Answers.{Outcome, outcome}
+use Rattle.calls.specs.Calls.{stop, needed, openVerdict, openedArea, openSays, openLeaves, pickVerdict, pickSays, pickLeaves, reportSays, lengthSays, wholeVerdict, wholeAfter, wholeReport, wholeSays, wholeLeaves}
+use Rattle.calls.proofs.Verdicts.{refused-state}
+use Rattle.reach.specs.Tables.{tableVerdict, tableOf, tableLeaves}
+use Rattle.law.specs.Whole.{whole-refused as refused-run}
+
+-- x is one of the numbers listed
+pub data Among (x : ℕ) : List ℕ → Type 0 where
+  first : {y : ℕ} {ys : List ℕ} → x ≡ y → Among x (y ∷ ys)
+  later : {y : ℕ} {ys : List ℕ} → Among x ys → Among x (y ∷ ys)
+
+among-stop : (b : Bool) (c v : ℕ) (xs : List ℕ) → Among v xs → Among (stop b c v) (c ∷ xs)
+unfolding stop
+among-stop true c v xs h = first refl
+among-stop false c v xs h = later h
+
+-- ---- which numbers a call gives; 0 is none
+
+pub opening-numbers : (n measure limit : ℕ) (footprint a : List ℕ) → Among (openSays n measure limit footprint a .refusal) (1 ∷ 2 ∷ 3 ∷ 10 ∷ 5 ∷ 4 ∷ 0 ∷ [])
+unfolding openSays openVerdict
+opening-numbers n measure limit footprint a =
+    among-stop (not (between 2 n 32)) 1 _ _ (among-stop (not (between 1 measure 4)) 2 _ _ (among-stop (not (between 1 limit 4096)) 3 _ _
+    (among-stop (eqb measure 2 && not (eqb (length footprint) n)) 10 _ _ (among-stop (eqb measure 2 && not (clean n footprint)) 5 _ _ (among-stop (ltb (length a) (needed measure n limit)) 4 0 _ (first refl))))))
+
+pub pick-numbers : (p : Place) (a w : List ℕ) → Among (pickSays p a w .refusal) (16 ∷ 7 ∷ 10 ∷ 5 ∷ 4 ∷ 6 ∷ 0 ∷ [])
+unfolding pickVerdict
+pick-numbers p a w =
+    among-stop (not (soundPlace p)) 16 _ _ (among-stop (leb (p .limit) (p .taken .0)) 7 _ _ (among-stop (not (eqb (length w) (p .boards))) 10 _ _
+    (among-stop (not (clean (p .boards) w)) 5 _ _ (among-stop (ltb (length a) (needed (p .measure) (p .boards) (p .limit))) 4 _ _
+    (among-stop (eqb (p .measure) 2 && not (listed (p .boards) (part (p .boards) a (p .limit + 3)) w)) 6 0 _ (first refl))))))
+
+report-numbers : (o : Option ℕ) (p : Place) → Among (reportSays o p .refusal) (9 ∷ 0 ∷ [])
+report-numbers none p = first refl
+report-numbers (some k) p = later (first refl)
+
+pub length-numbers : (p : Place) → Among (lengthSays p .refusal) (16 ∷ 8 ∷ 9 ∷ 0 ∷ [])
+unfolding lengthSays
+length-numbers p = go (not (soundPlace p)) (eqb (p .taken .0) 0)
+  where
+    go : (x y : Bool) → Among (either x (outcome 16 0 0 0) (either y (outcome 8 0 0 0) (reportSays (reported p) p)) .refusal) (16 ∷ 8 ∷ 9 ∷ 0 ∷ [])
+    go true y = first refl
+    go false true = later (first refl)
+    go false false = later (later (report-numbers (reported p) p))
+
+pub whole-numbers : (n measure : ℕ) (w a : List ℕ) → Among (wholeSays n measure w a .refusal) (1 ∷ 2 ∷ 10 ∷ 8 ∷ 3 ∷ 4 ∷ 5 ∷ 9 ∷ 0 ∷ [])
+unfolding wholeSays wholeVerdict wholeReport
+whole-numbers n measure w a = go (eqb (wholeVerdict n measure w a) 0) numbers
+  where
+    numbers : Among (wholeVerdict n measure w a) (1 ∷ 2 ∷ 10 ∷ 8 ∷ 3 ∷ 4 ∷ 5 ∷ 9 ∷ 0 ∷ [])
+    numbers =
+        among-stop (not (between 2 n 32)) 1 _ _ (among-stop (not (between 1 measure 4)) 2 _ _ (among-stop (not (eqb (length w % n) 0)) 10 _ _
+        (among-stop (eqb (length w / n) 0) 8 _ _ (among-stop (ltb 4096 (length w / n)) 3 _ _ (among-stop (ltb (length a) (needed measure n (length w / n))) 4 _ _
+        (among-stop (not (cleanPicks n w (length w / n))) 5 0 _ (later (first refl))))))))
+
+    go : (x : Bool) → Among (wholeVerdict n measure w a) (1 ∷ 2 ∷ 10 ∷ 8 ∷ 3 ∷ 4 ∷ 5 ∷ 9 ∷ 0 ∷ [])
+        → Among (either x (wholeReport n measure (length w / n) w a) (outcome (wholeVerdict n measure w a) 0 0 0) .refusal) (1 ∷ 2 ∷ 10 ∷ 8 ∷ 3 ∷ 4 ∷ 5 ∷ 9 ∷ 0 ∷ [])
+    go true h = later (later (later (later (later (later (later (report-numbers (reported (wholeAfter n measure (length w / n) w a (length w / n) .place)) (wholeAfter n measure (length w / n) w a (length w / n) .place))))))))
+    go false h = h
+
+pub table-numbers : (n : ℕ) (w out : List ℕ) → Among (tableVerdict n w out) (1 ∷ 10 ∷ 8 ∷ 3 ∷ 4 ∷ 5 ∷ 0 ∷ [])
+unfolding tableVerdict
+table-numbers n w out =
+    among-stop (not (between 2 n 32)) 1 _ _ (among-stop (not (eqb (length w % n) 0)) 10 _ _ (among-stop (eqb (length w / n) 0) 8 _ _
+    (among-stop (ltb 4096 (length w / n)) 3 _ _ (among-stop (ltb (length out) n) 4 _ _ (among-stop (not (cleanPicks n w (length w / n))) 5 0 _ (first refl))))))
+
+-- ---- a refused call leaves everything as it was
+
+not-zero : (x : ℕ) → (x ≡ 0 → ⊥) → eqb x 0 ≡ false
+not-zero x f = F→≡ (eqb x 0) (λ t. f (eqb→eq x 0 t))
+
+-- a refused opening hands back the place of zeros and noes
+pub opening-refused : (n measure limit : ℕ) (footprint a : List ℕ) → (openSays n measure limit footprint a .refusal ≡ 0 → ⊥)
+    → (openSays n measure limit footprint a .place ≡ nowhere) × (openLeaves n measure limit footprint a ≡ a)
+unfolding openSays openLeaves
+opening-refused n measure limit footprint a f =
+    let e = not-zero (openVerdict n measure limit footprint a) f in
+    (ap (λ (b : Bool). either b (fresh measure n limit) nowhere) e, ap (λ (b : Bool). either b (openedArea n measure limit footprint a) a) e)
+
+pub pick-refused : (p : Place) (a w : List ℕ) → (pickSays p a w .refusal ≡ 0 → ⊥) → (pickSays p a w .place ≡ p) × (pickLeaves p a w ≡ a)
+pick-refused p a w f =
+    let e = refused-state p a w (not-zero (pickVerdict p a w) f) in
+    (ap (λ (st : State). st .place) e, ap (λ (st : State). st .area) e)
+
+-- a whole run that is refused by a check leaves the area as it was; 9 is no such refusal: its words end zero as after an answer
+pub whole-refused : (n measure : ℕ) (w a : List ℕ) → (wholeVerdict n measure w a ≡ 0 → ⊥) → wholeLeaves n measure w a ≡ a
+whole-refused = refused-run
+
+pub table-refused : (n : ℕ) (w out : List ℕ) → (tableVerdict n w out ≡ 0 → ⊥) → tableLeaves n w out ≡ out
+unfolding tableLeaves
+table-refused n w out f = ap (λ (b : Bool). either b (tableOf n w ++ drop n out) out) (not-zero (tableVerdict n w out) f)
