@@ -9,7 +9,7 @@ use Prim.Native.Nat.{ℕ, zero, suc, _+_, _-_, _*_, _≤_, _<_}
 use native.Mathlib.Omega.{arith}
 use lib.Dec.{T, eqb}
 use lib.ListN.{length}
-use Rattle.model.specs.Recording.{Clean, Recording}
+use Rattle.model.specs.Recording.{Clean, Recording, pickAt}
 use Rattle.model.specs.Journey.{unlimited, atMost}
 use Rattle.model.specs.Measures.{CommonLink, SomeLink, PassesCommon, PassesFootprint, PassesReach, PassesRoundTrip}
 use Rattle.model.specs.Length.{Smallest, NoLength, Upward}
@@ -19,13 +19,13 @@ use Rattle.model.proofs.Monotone.{Listed, common-down, footprint-up, reach-up}
 use Rattle.links.specs.Tells.{Marks}
 use Rattle.links.proofs.Tells.{Reaches}
 use Rattle.times.specs.Tells.{TellsTimes}
-use Rattle.measures.specs.Kit.{kit}
+use Rattle.measures.specs.Kit.{Kit, kit}
 use Rattle.place.specs.declared.Place.{Place}
 use Rattle.place.specs.Places.{Sound}
 use Rattle.steps.specs.Walk.{State, reported}
 use Rattle.calls.specs.Answers.{Outcome, outcome}
 use Rattle.calls.specs.Calls.{needed, reportSays}
-use Rattle.law.specs.Faithful.{Faithful}
+use Rattle.law.specs.Faithful.{Faithful, windowTable}
 use Rattle.law.specs.Kits.{Tested, common-faithful, common-tested, footprint-faithful, footprint-tested, reach-kit, reach-tested, round-faithful, round-tested, round-upward}
 use Rattle.law.specs.Unlimited.{reach-agree, round-agree}
 use Rattle.law.specs.MinWalk.{MinAnswer}
@@ -33,7 +33,7 @@ use Rattle.law.specs.MaxWalk.{MaxAnswer}
 use Rattle.law.specs.Runs.{walked}
 use Rattle.calls.proofs.Opened.{opened-list}
 use Rattle.law.specs.Opened.{start, listed}
-use Rattle.law.specs.Walks.{min-answer, min-tests, min-compositions, min-sound, max-answer, max-tests-within, max-compositions, max-sound}
+use Rattle.law.specs.Walks.{Holds, HoldsOrEnded, min-parts, max-parts, min-answer, min-tests, min-compositions, min-sound, max-answer, max-tests-within, max-compositions, max-sound}
 use Rattle.law.specs.Correct.{Passes, IsLength, Right, answered, none-exists, Counted}
 
 -- a report is right where what it says is
@@ -74,6 +74,12 @@ pub record Told (measure n : ℕ) (footprint : List ℕ) (r : List (List ℕ)) (
   pub right : Right measure (Passes measure n footprint r) k (reportSays (reported p) p)
   pub counted : Counted measure c k (reportSays (reported p) p)
   pub sound : c ≡ 0 → Sound p
+
+-- what the parts hold after k picks, by the measure's number
+abbrev pub PartsAre : ℕ → Kit → (ℕ → List ℕ) → (ℕ → ℕ → List ℕ) → List ℕ → ℕ → State → Type 0
+PartsAre zero K own win l k st = Unit {0}
+PartsAre (suc zero) K own win l k st = HoldsOrEnded K own win l k st
+PartsAre (suc (suc x)) K own win l k st = Holds K own win l k st
 
 module _ (n limit : ℕ) (n2 : 2 ≤ n) (n32 : n ≤ 32) (cap : limit ≤ 4096) (footprint a : List ℕ) (r : List (List ℕ)) (rec : Recording n r) (few : length r ≤ limit) where
   told-common : (room : needed 1 n limit ≤ length a) (list : _≡_ {A = ℕ} 1 2 → n ≡ length footprint) (k : ℕ) → 1 ≤ k → k ≤ length r
@@ -141,3 +147,24 @@ module _ (n limit : ℕ) (n2 : 2 ≤ n) (n32 : n ≤ 32) (cap : limit ≤ 4096) 
       (round-tested 31 0 n n32 r rec (listed n 4 limit footprint a room list)) (round-upward 31 0 n n32 r rec) (round-agree n n32 r rec 0) c k x y in
       record { right = t .0; counted = t .1; sound = λ z. t .2 z (omega arith) }
   told (suc (suc (suc (suc (suc z))))) low high room list c ch fit k x y = absurd (omega arith)
+
+  -- THEOREM. After each pick the parts hold what document 01 says: the tables of windows (`windowTable`), pick i's own table, the footprint, zero.
+  pub parts : (measure : ℕ) → 1 ≤ measure → measure ≤ 4 → (room : needed measure n limit ≤ length a) (list : measure ≡ 2 → n ≡ length footprint) (c : ℕ)
+      → Charge measure c → Fits measure footprint r n → (k : ℕ) → 1 ≤ k → k ≤ length r
+      → PartsAre measure (kit measure n) (λ i. kit measure n .own i (pickAt r i)) (windowTable (kit measure n .join) (kit measure n .own) r) (listed n measure limit footprint a room list) k
+      (walked (kit measure n) r (start n measure limit footprint a room list c) k)
+  parts zero low high room list c ch fit k x y = tt
+  parts (suc zero) low high room list c ch fit k x y =
+      subst (λ (z : ℕ). HoldsOrEnded (kit 1 n) (λ i. kit 1 n .own i (pickAt r i)) (windowTable (kit 1 n .join) (kit 1 n .own) r) (listed n 1 limit footprint a room list) k (walked (kit 1 n) r (start n 1 limit footprint a room list z) k)) (sym ch)
+      (max-parts n 1 limit footprint a room list r rec few (λ i j. Marks n (CommonLink r i j)) (common-faithful 31 0 n n32 r rec) (PassesCommon r n) (common-tested 31 0 n n32 r rec (listed n 1 limit footprint a room list)) refl (common-down r n (length r)) k x y)
+  parts (suc (suc zero)) low high room list c ch fit k x y =
+      min-parts n 2 limit footprint a room list r rec few (λ i j. Marks n (SomeLink r i j)) (footprint-faithful 31 0 n n32 r rec) (PassesFootprint r footprint)
+      (subst (λ (l : List ℕ). Tested (kit 2 n) l r (λ i j. Marks n (SomeLink r i j)) (PassesFootprint r footprint)) (sym (opened-list n 2 limit footprint a room list refl)) (footprint-tested 31 0 n n32 r rec footprint (fit .0)))
+      (eqb-ne 2 1 (λ e. omega arith)) (footprint-up r footprint (fit .1)) c k x y
+  parts (suc (suc (suc zero))) low high room list c ch fit k x y =
+      min-parts n 3 limit footprint a room list r rec few (λ i j. Marks n (Reaches r (atMost 31) i j)) (reach-kit 31 0 n n32 r rec) (PassesReach r n (atMost 31))
+      (reach-tested 31 0 n n32 r rec (listed n 3 limit footprint a room list)) (eqb-ne 3 1 (λ e. omega arith)) (reach-up r n (atMost 31) (length r)) c k x y
+  parts (suc (suc (suc (suc zero)))) low high room list c ch fit k x y =
+      min-parts n 4 limit footprint a room list r rec few (TellsTimes r n (atMost 31)) (round-faithful 31 0 n n32 r rec) (PassesRoundTrip r n (atMost 31) 0)
+      (round-tested 31 0 n n32 r rec (listed n 4 limit footprint a room list)) (eqb-ne 4 1 (λ e. omega arith)) (round-upward 31 0 n n32 r rec) c k x y
+  parts (suc (suc (suc (suc (suc z))))) low high room list c ch fit k x y = absurd (omega arith)

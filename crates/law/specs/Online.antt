@@ -26,13 +26,14 @@ use Rattle.steps.specs.Walk.{State, state, kitOf, stepped, reported}
 use Rattle.calls.specs.Answers.{Outcome, outcome}
 use Rattle.calls.specs.Calls.{needed, openVerdict, openedArea, openSays, openLeaves, pickVerdict, pickState, reportSays, lengthSays}
 use Rattle.calls.specs.Fit.{Opens, Takes}
-use Rattle.calls.proofs.Verdicts.{open-sound, pick-sound}
+use Rattle.calls.proofs.Verdicts.{open-sound, pick-sound, taken-state, refused-state}
 use Rattle.steps.proofs.Frames.{Room, Frame, rise, stepped-frame, Untouched}
+use Rattle.law.specs.Faithful.{windowTable}
 use Rattle.law.specs.Runs.{Kept, stepped-kept, walked, walked-kept}
 use Rattle.calls.proofs.Opened.{opened-list}
 use Rattle.law.specs.Opened.{start}
 use Rattle.law.specs.Correct.{Passes, Right, Counted}
-use Rattle.law.specs.Measures.{Fits, Charge, Told, told}
+use Rattle.law.specs.Measures.{Fits, Charge, Told, told, PartsAre, parts}
 
 -- ---- picks through the call, one after the other
 
@@ -64,12 +65,10 @@ taken-split st (w ∷ ws) y = let e = taken-split (picked st w) ws y in (λ t. l
 
 -- THEOREM. A pick that no check refuses is taken: it makes one step of the walk. A refused pick leaves place and area as they were.
 pub pick-taken : (st : State) (w : List ℕ) → pickVerdict (st .place) (st .area) w ≡ 0 → picked st w ≡ stepped (kitOf (st .place)) w st
-unfolding pickState
-pick-taken st w e = ap (λ (b : ℕ). either (eqb b 0) (stepped (kitOf (st .place)) w st) st) e
+pick-taken st w e = taken-state (st .place) (st .area) w e
 
 pub pick-refused : (st : State) (w : List ℕ) → (pickVerdict (st .place) (st .area) w ≡ 0 → ⊥) → picked st w ≡ st
-unfolding pickState
-pick-refused st w f = ap (λ (b : Bool). either b (stepped (kitOf (st .place)) w st) st) (F→≡ (eqb (pickVerdict (st .place) (st .area) w) 0) (λ t. f (eqb→eq (pickVerdict (st .place) (st .area) w) 0 t)))
+pick-refused st w f = refused-state (st .place) (st .area) w (F→≡ (eqb (pickVerdict (st .place) (st .area) w) 0) (λ t. f (eqb→eq (pickVerdict (st .place) (st .area) w) 0 t)))
 
 -- ---- what picks that were taken tell
 
@@ -204,6 +203,29 @@ no-charge zero = tt
 no-charge (suc zero) = refl
 no-charge (suc (suc x)) = tt
 
+-- what picks that were taken from an opening come to: a recording, and a walk over it
+record Walk-over (n measure limit : ℕ) (footprint a : List ℕ) (room : needed measure n limit ≤ length a) (list : measure ≡ 2 → n ≡ length footprint) (ws : List (List ℕ)) : Type 0 where
+  rec : Recording n ws
+  few : length ws ≤ limit
+  fit : Fits measure footprint ws n
+  same : after (opened n measure limit footprint a) ws ≡ walked (kit measure n) ws (start n measure limit footprint a room list 0) (length ws)
+
+walk-over : (n measure limit : ℕ) (footprint a : List ℕ) (e : openVerdict n measure limit footprint a ≡ 0) (ws : List (List ℕ)) → Taken (opened n measure limit footprint a) ws
+    → Walk-over n measure limit footprint a (open-sound n measure limit footprint a e .room) (open-sound n measure limit footprint a e .list) ws
+unfolding fresh charged
+walk-over n measure limit footprint a e ws t =
+    let f = open-sound n measure limit footprint a e in
+    let s0 = start n measure limit footprint a (f .room) (f .list) 0 in
+    let q : opened n measure limit footprint a ≡ s0 = opened-start n measure limit footprint a e (f .room) (f .list) in
+    let l = part (widthOf measure n) (openedArea n measure limit footprint a) (limit + 3) in
+    let w = walks n measure limit l ws s0 (record { at-boards = refl; at-measure = refl; at-limit = refl; at-list = refl }) (subst (λ (x : State). Taken x ws) q t) in
+    record {
+      rec = good-recording n measure l ws (w .good);
+      few = omega (arith, w .few zero-le);
+      fit = fits-of measure n l footprint ws (opened-list n measure limit footprint a (f .room) (f .list)) (λ m. clean-is n footprint (sym (f .list m)) .0 (f .clean m)) (w .good);
+      same = ap (λ (x : State). after x ws) q ∙ w .walk;
+    }
+
 -- CONDITION 2, pick by pick. For every opening that is answered by a place and every sequence of picks that are taken.
 pub online : (n measure limit : ℕ) (footprint a : List ℕ) → openVerdict n measure limit footprint a ≡ 0
     → (ws : List (List ℕ)) → Taken (opened n measure limit footprint a) ws → 1 ≤ length ws
@@ -211,23 +233,29 @@ pub online : (n measure limit : ℕ) (footprint a : List ℕ) → openVerdict n 
 unfolding fresh charged
 online n measure limit footprint a e ws t some-pick =
     let f = open-sound n measure limit footprint a e in
+    let w = walk-over n measure limit footprint a e ws t in
     let s0 = start n measure limit footprint a (f .room) (f .list) 0 in
-    let q : opened n measure limit footprint a ≡ s0 = opened-start n measure limit footprint a e (f .room) (f .list) in
-    let l = part (widthOf measure n) (openedArea n measure limit footprint a) (limit + 3) in
-    let w = walks n measure limit l ws s0 (record { at-boards = refl; at-measure = refl; at-limit = refl; at-list = refl }) (subst (λ (x : State). Taken x ws) q t) in
-    let rec = good-recording n measure l ws (w .good) in
-    let few : length ws ≤ limit = omega (arith, w .few zero-le) in
-    let fit = fits-of measure n l footprint ws (opened-list n measure limit footprint a (f .room) (f .list)) (λ m. clean-is n footprint (sym (f .list m)) .0 (f .clean m)) (w .good) in
-    let d = told n limit (f .some-boards) (f .few) (f .cap) footprint a ws rec few measure (f .measure-low) (f .measure-high) (f .room) (f .list) 0 (no-charge measure) fit (length ws) some-pick (le-refl (length ws)) in
+    let d = told n limit (f .some-boards) (f .few) (f .cap) footprint a ws (w .rec) (w .few) measure (f .measure-low) (f .measure-high) (f .room) (f .list) 0 (no-charge measure) (w .fit) (length ws) some-pick (le-refl (length ws)) in
     let p = walked (kit measure n) ws s0 (length ws) .place in
     let m = walked-kept (kit measure n) ws s0 (length ws) .taken in
     let sound = d .sound refl in
     let z = length-reports p sound (omega arith) in
-    subst (λ (x : State). Walked n measure limit footprint ws (x .place)) (sym (ap (λ (x : State). after x ws) q ∙ w .walk)) (record {
-      recorded = rec;
-      within = few;
-      fits = fit;
+    subst (λ (x : State). Walked n measure limit footprint ws (x .place)) (sym (w .same)) (record {
+      recorded = w .rec;
+      within = w .few;
+      fits = w .fit;
       sound = sound;
       right = subst (Right measure (Passes measure n footprint ws) (length ws)) (sym z) (d .right);
       counted = subst (Counted measure 0 (length ws)) (sym z) (d .counted);
     })
+
+-- and the parts of the area hold what document 01 says
+pub online-parts : (n measure limit : ℕ) (footprint a : List ℕ) → openVerdict n measure limit footprint a ≡ 0
+    → (ws : List (List ℕ)) → Taken (opened n measure limit footprint a) ws → 1 ≤ length ws
+    → PartsAre measure (kit measure n) (λ i. kit measure n .own i (pickAt ws i)) (windowTable (kit measure n .join) (kit measure n .own) ws)
+    (part (widthOf measure n) (openedArea n measure limit footprint a) (limit + 3)) (length ws) (after (opened n measure limit footprint a) ws)
+online-parts n measure limit footprint a e ws t some-pick =
+    let f = open-sound n measure limit footprint a e in
+    let w = walk-over n measure limit footprint a e ws t in
+    subst (PartsAre measure (kit measure n) (λ i. kit measure n .own i (pickAt ws i)) (windowTable (kit measure n .join) (kit measure n .own) ws) (part (widthOf measure n) (openedArea n measure limit footprint a) (limit + 3)) (length ws)) (sym (w .same))
+    (parts n limit (f .some-boards) (f .few) (f .cap) footprint a ws (w .rec) (w .few) measure (f .measure-low) (f .measure-high) (f .room) (f .list) 0 (no-charge measure) (w .fit) (length ws) some-pick (le-refl (length ws)))

@@ -20,9 +20,39 @@ use Rattle.calls.specs.Calls.{needed}
 use Rattle.law.specs.Faithful.{Faithful, windowTable, window-tells}
 use Rattle.law.specs.Kits.{Tested}
 use Rattle.law.specs.MinWalk.{MinAnswer, Stands, min-stands, min-right, min-counts}
-use Rattle.law.specs.MaxWalk.{MaxAnswer, Lives, Ended, Goes, max-goes, max-right, max-tests, max-comps}
+use Rattle.lists.specs.Tab.{zeros}
+use Rattle.law.specs.Ladders.{holds, Laddered}
+use Rattle.law.specs.MaxWalk.{MaxAnswer, Lives, Ended, atEnd, Goes, max-goes, max-right, max-tests, max-comps}
 use Rattle.law.specs.Runs.{Kept, walked, walked-kept, law-of}
 use Rattle.law.specs.Opened.{start, listed, opened-stands, opened-lives}
+
+-- What the parts hold once pick m is taken in, part by part: compositions i to b for i from s to b, own tables above b, the right ladder, the last
+-- window tested, the footprint, and zero.
+pub record Holds (K : Kit) (own : ℕ → List ℕ) (win : ℕ → ℕ → List ℕ) (l : List ℕ) (m : ℕ) (st : State) : Type 0 where
+  pub lefts : (i : ℕ) → st .place .start .0 ≤ i → i ≤ st .place .boundary .0 → holds K st i ≡ win i (st .place .boundary .0)
+  pub owns : (i : ℕ) → st .place .boundary .0 < i → i ≤ m → holds K st i ≡ own i
+  pub rights : st .place .boundary .0 < m → holds K st (st .place .limit + 1) ≡ win (st .place .boundary .0 + 1) m
+  pub empty : st .place .boundary .0 ≡ m → holds K st (st .place .limit + 1) ≡ zeros (K .width)
+  pub window : holds K st (st .place .limit + 2) ≡ win (st .place .start .0) m
+  pub list : holds K st (st .place .limit + 3) ≡ l
+  pub spare : holds K st (st .place .limit + 4) ≡ zeros (K .width)
+
+holds-of : {K : Kit} {own : ℕ → List ℕ} {win : ℕ → ℕ → List ℕ} {l : List ℕ} {m : ℕ} {st : State} → st .place .taken .0 ≡ m → Laddered K own win l st
+    → holds K st (st .place .limit + 2) ≡ win (st .place .start .0) (st .place .taken .0) → holds K st (st .place .limit + 4) ≡ zeros (K .width) → Holds K own win l m st
+holds-of {K} {own} {win} {l} {m} {st} e a w z = subst (λ (x : ℕ). Holds K own win l x st) e (record {
+  lefts = a .lefts;
+  owns = a .owns;
+  rights = a .rights;
+  empty = a .empty;
+  window = w;
+  list = a .frame .list;
+  spare = z;
+})
+
+-- After measure 1's end the parts keep what the ending pick, s, left.
+pub data HoldsOrEnded (K : Kit) (own : ℕ → List ℕ) (win : ℕ → ℕ → List ℕ) (l : List ℕ) (m : ℕ) (st : State) : Type 0 where
+  goes-on : T (st .place .passed) → Holds K own win l m st → HoldsOrEnded K own win l m st
+  has-ended : (T (st .place .passed) → ⊥) → Holds K own win l (st .place .start .0) st → HoldsOrEnded K own win l m st
 
 module _ (n measure limit : ℕ) (footprint a : List ℕ) (room : needed measure n limit ≤ length a) (list : measure ≡ 2 → n ≡ length footprint)
     (r : List (List ℕ)) (rec : Recording n r) (few : length r ≤ limit)
@@ -123,6 +153,9 @@ module _ (n measure limit : ℕ) (footprint a : List ℕ) (room : needed measure
         let t = at c k .taken in
         omega (arith, min-counts K own win l (length r) (law-of measure n r Tells rec law) P right up c (st c k) (min-after k y) (omega arith))
 
+    pub min-parts : (k : ℕ) → 1 ≤ k → k ≤ length r → Holds K own win l k (st c k)
+    min-parts k x y = let a = min-after k y in let t = at c k .taken in holds-of t (a .ladders) (a .window (omega arith)) (a .spare)
+
     -- a place as left is never 16
     pub min-sound : c ≡ 0 → 2 ≤ n → n ≤ 32 → 1 ≤ measure → measure ≤ 4 → limit ≤ 4096 → (k : ℕ) → 1 ≤ k → k ≤ length r → Sound (st c k .place)
     min-sound e n2 n32 low high cap k x y =
@@ -180,3 +213,19 @@ module _ (n measure limit : ℕ) (footprint a : List ℕ) (room : needed measure
         go (inl a) = let t = at 0 k .taken in
             sound-at n2 n32 low high cap k x y (a .ladders .frame .start) (a .ladders .near) (a .ladders .bound) (a .inside (omega arith)) (max-compositions k x y) (max-tests-within k x y)
         go (inr a) = sound-at n2 n32 low high cap k x y (a .start) (a .near) (a .bound) (a .inside) (max-compositions k x y) (max-tests-within k x y)
+
+    pub max-parts : (k : ℕ) → 1 ≤ k → k ≤ length r → HoldsOrEnded K own win l k (st 0 k)
+    unfolding atEnd
+    max-parts k x y = go (max-after k y)
+      where
+        go : Goes K own win l (length r) (law-of measure n r Tells rec law) P right down (st 0 k) → HoldsOrEnded K own win l k (st 0 k)
+        go (inl a) = let t = at 0 k .taken in goes-on (a .good (omega arith)) (holds-of t (a .ladders) (a .window (omega arith)) (a .spare))
+        go (inr a) = has-ended (a .bad) (record {
+          lefts = a .ladders .lefts;
+          owns = a .ladders .owns;
+          rights = a .ladders .rights;
+          empty = a .ladders .empty;
+          window = a .window;
+          list = a .ladders .frame .list;
+          spare = a .spare;
+        })
