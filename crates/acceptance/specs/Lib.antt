@@ -1,4 +1,5 @@
 -- The tender, stated once, to be read.
 pub mod Condition1
 pub mod Condition2
+pub mod Condition3
 pub mod Cases

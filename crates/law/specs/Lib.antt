@@ -15,3 +15,5 @@ pub mod Correct
 pub mod Measures
 pub mod Online
 pub mod Whole
+pub mod Joined
+pub mod Condition3Runs

@@ -1,0 +1,2 @@
+-- Numbers and dashes as text.
+pub mod Text

@@ -1,0 +1,34 @@
+-- Numbers and dashes as text, in columns.
+use mathlib.Core.Bool.{Bool, true, false}
+use mathlib.Core.List.{List, [], _∷_, _++_}
+use Prim.Native.Nat.{ℕ, zero, suc, _+_, _/_, _%_}
+use lib.Dec.{ltb}
+use lib.ListN.{length, take, drop}
+use Rattle.columns.specs.declared.Cell.{Cell}
+use Rattle.columns.specs.declared.Cell.the-variants.{Number, Dash}
+
+abbrev pub pickText : Bool → List ℕ → List ℕ → List ℕ
+pickText true a b = a
+pickText false a b = b
+
+-- the decimal digits of x, in at most f + 1 places
+unfoldable pub decimal : ℕ → ℕ → List ℕ
+decimal zero x = (48 + x) ∷ []
+decimal (suc f) x = pickText (ltb x 10) ((48 + x) ∷ []) (decimal f (x / 10) ++ ((48 + x % 10) ∷ []))
+
+-- a number has no more places than its value
+unfoldable pub decimalOf : ℕ → List ℕ
+decimalOf x = decimal x x
+
+-- a dash is byte 45
+abbrev pub cellText : Cell → List ℕ
+cellText (Number x) = decimalOf x
+cellText Dash = 45 ∷ []
+
+-- three cells with a blank between, and a line end
+unfoldable pub line3 : Cell → Cell → Cell → List ℕ
+line3 a b c = (cellText a ++ (32 ∷ [])) ++ ((cellText b ++ (32 ∷ [])) ++ (cellText c ++ (10 ∷ [])))
+
+-- the buffer, with the bytes xs from `at` on
+unfoldable pub putAt : List ℕ → ℕ → List ℕ → List ℕ
+putAt buf at xs = take at buf ++ (xs ++ drop (at + length xs) buf)

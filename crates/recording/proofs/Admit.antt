@@ -1,0 +1,163 @@
+-- What is known of a command that was not refused. Assumes nothing.
+use mathlib.Core.Path.{_≡_, refl, sym, ap, _∙_, subst}
+use mathlib.Core.Bool.{Bool, true, false, _||_, true≢false}
+use mathlib.Core.List.{List}
+use Prim.Native.Nat.{ℕ, _+_, _*_, _≤_, _<_}
+use native.Mathlib.Omega.{arith}
+use borrow.Author.Tests.{ltb-false, leb-false, eqb-false}
+use lib.Dec.{eqb, leb}
+use lib.ListN.{length, getD}
+use Rattle.model.specs.declared.Board.{Board}
+use Rattle.model.specs.declared.Refusal.{Refusal}
+use Rattle.recording.specs.declared.Command.{Command}
+use Rattle.recording.specs.declared.Command.the-variants.{Boards, Link, Pick, End, Not}
+use Rattle.recording.specs.declared.Width.{Width}
+use Rattle.recording.specs.declared.Width.the-variants.{Known, Unknown}
+use Rattle.recording.specs.Commands.{refuse, widthOf, takenApart, commandAt, operandsIn}
+use Rattle.recording.proofs.Table.{width-law}
+use Rattle.model.specs.Recording.{link}
+use Rattle.recording.specs.Format.{noLink, unchanged, boardsFit, headAt, admitted, next}
+
+or-left : (a b : Bool) → (a || b) ≡ false → a ≡ false
+or-left true b e = absurd (true≢false e)
+or-left false b e = refl
+
+or-right : (a b : Bool) → (a || b) ≡ false → b ≡ false
+or-right true b e = absurd (true≢false e)
+or-right false b e = e
+
+pub record Linkable (n a b : ℕ) : Type 0 where
+  pub apart : a ≡ b → ⊥
+  pub from : a < n
+  pub to : b < n
+
+pub linkable : (n a b : ℕ) → noLink n a b ≡ false → Linkable n a b
+linkable n a b e =
+    let r = or-right (eqb a b) _ e in
+    record {
+      apart = eqb-false a b (or-left (eqb a b) _ e);
+      from = leb-false n a (or-left (leb n a) (leb n b) r);
+      to = leb-false n b (or-right (leb n a) (leb n b) r);
+    }
+
+-- the two operands of a link that is able: an index of the links, and a shift
+pub in-links : (n a b k : ℕ) → noLink n a b ≡ false → n ≡ k → n ≤ 32 → (a < k) × (b < 32)
+in-links n a b k e q h = let l = linkable n a b e in let f = l .from in let t = l .to in (omega arith, omega arith)
+
+-- two constructors are never equal: `no cc`
+pub no : _≡_ {A = ℕ} 0 1 → ⊥
+no e = omega arith
+
+-- not refused
+abbrev Taken : Command → Type 0
+Taken (Boards n) = Unit {0}
+Taken (Link a b v) = Unit {0}
+Taken Pick = Unit {0}
+Taken End = Unit {0}
+Taken (Not r) = ⊥
+
+-- what is not refused went past the cause
+past : (t : Bool) (r : Refusal) (x y : Command) → refuse t r x ≡ y → Taken y → (t ≡ false) × (x ≡ y)
+unfolding refuse
+past true r x y e h = absurd (subst Taken (sym e) h)
+past false r x y e h = (refl, e)
+
+pub record Linked (n : ℕ) (links : List ℕ) (a b : ℕ) (v : Bool) : Type 0 where
+  pub able : noLink n a b ≡ false
+  pub changes : unchanged v (link links a b) ≡ false
+
+pub admitted-link : (n limit count : ℕ) (links : List ℕ) (x : Command) (a b : Board) (v : Bool)
+    → admitted n limit count links x ≡ Link a b v → Linked n links (a .0) (b .0) v
+admitted-link n limit count links (Link a′ b′ v′) a b v e =
+    let p = past _ _ _ _ e tt in
+    let q = past _ _ _ _ (p .1) tt in
+    let l = q .1 in
+    let ea : a′ ≡ a = cc in
+    let eb : b′ ≡ b = cc in
+    let ev : v′ ≡ v = cc in
+    rw (sym ea, sym eb, sym ev) record { able = p .0; changes = q .0 }
+admitted-link n limit count links Pick a b v e =
+    let p = past _ _ _ _ e tt in
+    let l = p .1 in
+    absurd (no cc)
+admitted-link n limit count links (Boards m) a b v e = absurd (no cc)
+admitted-link n limit count links End a b v e = absurd (no cc)
+admitted-link n limit count links (Not r) a b v e = absurd (no cc)
+
+pub admitted-pick : (n limit count : ℕ) (links : List ℕ) (x : Command) → admitted n limit count links x ≡ Pick → count < limit
+admitted-pick n limit count links (Link a b v) e =
+    let p = past _ _ _ _ e tt in
+    let q = past _ _ _ _ (p .1) tt in
+    let l = q .1 in
+    absurd (no cc)
+admitted-pick n limit count links Pick e = leb-false limit count (past _ _ _ _ e tt .0)
+admitted-pick n limit count links (Boards m) e = absurd (no cc)
+admitted-pick n limit count links End e = absurd (no cc)
+admitted-pick n limit count links (Not r) e = absurd (no cc)
+
+-- a command that is taken apart has its operands within the file
+taken-inside : (first : Bool) (bytes : List ℕ) (at : ℕ) (x : Command) → commandAt first bytes at ≡ x → Taken x → at + 1 + operandsIn x ≤ length bytes
+unfolding commandAt
+taken-inside first bytes at x e h =
+    let p = past _ _ _ _ e h in
+    let q = past _ _ _ _ (p .1) h in
+    by (widthOf (getD bytes at 0)) refl (q .1)
+  where
+    by : (w : Width) → widthOf (getD bytes at 0) ≡ w → takenApart w bytes at ≡ x → at + 1 + operandsIn x ≤ length bytes
+    by (Known k) i j =
+        let r = past _ _ _ _ j h in
+        let o : operandsIn x ≡ k = ap operandsIn (sym (r .1)) ∙ width-law (getD bytes at 0) k (getD bytes (at + 1) 0) (getD bytes (at + 2) 0) i in
+        rw o (ltb-false _ _ (r .0))
+    by Unknown i j = absurd (subst Taken (sym j) h)
+
+-- no later cause makes an end of another command
+admitted-end : (n limit count : ℕ) (links : List ℕ) (x : Command) → admitted n limit count links x ≡ End → x ≡ End
+admitted-end n limit count links (Link a b v) e =
+    let p = past _ _ _ _ e tt in
+    past _ _ _ _ (p .1) tt .1
+admitted-end n limit count links Pick e = past _ _ _ _ e tt .1
+admitted-end n limit count links (Boards m) e = e
+admitted-end n limit count links End e = e
+admitted-end n limit count links (Not r) e = e
+
+pub end-inside : (bytes : List ℕ) (n limit at count : ℕ) (links : List ℕ) → next bytes n limit at count links ≡ End → at < length bytes
+unfolding next
+end-inside bytes n limit at count links e =
+    let h : at + 1 + 0 ≤ length bytes = taken-inside false bytes at End (admitted-end n limit count links _ e) tt in
+    omega arith
+
+-- what a first command that is taken says
+pub record Headed (limit room : ℕ) (bytes : List ℕ) (start n : ℕ) : Type 0 where
+  pub few : limit ≤ 4096
+  pub low : 2 ≤ n
+  pub high : n ≤ 32
+  pub room-for : limit * n ≤ room
+  pub there : start + 2 ≤ length bytes
+
+boards-fit : (limit room : ℕ) (x : Command) (n : ℕ) → boardsFit limit room x ≡ Boards n → (x ≡ Boards n) × ((2 ≤ n) × ((n ≤ 32) × (limit * n ≤ room)))
+boards-fit limit room (Boards m) n e =
+    let p = past _ _ _ _ e tt in
+    let q = past _ _ _ _ (p .1) tt in
+    let r = past _ _ _ _ (q .1) tt in
+    let l = r .1 in
+    let em : m ≡ n = cc in
+    (l, rw (sym em) (ltb-false m 2 (p .0), (ltb-false 32 m (q .0), ltb-false room (limit * m) (r .0))))
+boards-fit limit room (Link a b v) n e = absurd (no cc)
+boards-fit limit room Pick n e = absurd (no cc)
+boards-fit limit room End n e = absurd (no cc)
+boards-fit limit room (Not r) n e = absurd (no cc)
+
+pub headed : (limit room : ℕ) (bytes : List ℕ) (start n : ℕ) → headAt limit room bytes start ≡ Boards n → Headed limit room bytes start n
+unfolding headAt
+headed limit room bytes start n e =
+    let p = past _ _ _ _ e tt in
+    let q = past _ _ _ _ (p .1) tt in
+    let f = boards-fit limit room _ n (q .1) in
+    let t : start + 1 + 1 ≤ length bytes = taken-inside true bytes start (Boards n) (f .0) tt in
+    record {
+      few = ltb-false 4096 limit (q .0);
+      low = f .1 .0;
+      high = f .1 .1 .0;
+      room-for = f .1 .1 .1;
+      there = omega arith;
+    }

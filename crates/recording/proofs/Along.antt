@@ -1,0 +1,84 @@
+-- The invariant of the two loops over the commands: what is left of the file, read from here, gives what the whole gives.
+-- Assumes nothing.
+use mathlib.Core.Path.{_≡_, refl, sym, ap, _∙_}
+use mathlib.Core.List.{List, [], _∷_, _++_}
+use Prim.Native.Nat.{ℕ, zero, suc, _+_, _-_, _≤_, _<_}
+use native.Mathlib.Omega.{arith}
+use borrow.Author.Tests.{le-leb}
+use mathlib.Core.Bool.{Bool, false}
+use lib.ListN.{length, length-append}
+use Rattle.recording.proofs.Admit.{in-links, admitted-link, admitted-pick}
+use Rattle.model.specs.declared.Board.{Board}
+use Rattle.model.specs.declared.Refusal.{Refusal}
+use Rattle.model.specs.declared.Refusal.the-variants as cause
+use Rattle.recording.specs.declared.Command.{Command}
+use Rattle.recording.specs.declared.Command.the-variants.{Boards, Link, Pick, End, Not}
+use Rattle.recording.specs.Commands.{refuse, commandAt}
+use Rattle.recording.specs.Format.{Content, ended, refused, flipped, next, follow, commands}
+
+-- `whole` is what the reading from a place, after some picks and with these links, comes to
+pub record Along (bytes : List ℕ) (n limit : ℕ) (whole : Content) (at count : ℕ) (links : List ℕ) : Type 0 where
+  pub turns : ℕ
+  pub picks : List (List ℕ)
+  pub enough : length bytes ≤ at + turns
+  pub counted : count ≡ length picks
+  pub rest : commands bytes n limit turns at picks links ≡ whole
+
+unfoldable pub along-start : (bytes : List ℕ) (n limit start : ℕ) (links : List ℕ)
+    → Along bytes n limit (commands bytes n limit (length bytes) start [] links) start 0 links
+along-start bytes n limit start links = record { turns = length bytes; picks = []; enough = omega arith; counted = refl; rest = refl }
+
+module _ {bytes : List ℕ} {n limit : ℕ} {whole : Content} {at count : ℕ} {links : List ℕ} (a : Along bytes n limit whole at count links) where
+  -- x is what `next` returned, and y the arm that the loop then takes
+  module _ {x : Command} (e : x ≡ next bytes n limit at count links) where
+    -- a link's operands are an index of the links and a shift
+    pub along-able : {f t : Board} {v : Bool} → x ≡ Link f t v → n ≡ length links → n ≤ 32 → (f .0 < length links) × (t .0 < 32)
+    unfolding next
+    along-able {f} {t} {v} q l h =
+        in-links n (f .0) (t .0) (length links) (admitted-link n limit count links (commandAt false bytes at) f t v (sym e ∙ q) .able) l h
+
+    -- a pick is within the limit
+    pub along-within : x ≡ Pick → count < limit
+    unfolding next
+    along-within q = admitted-pick n limit count links (commandAt false bytes at) (sym e ∙ q)
+
+    module _ (h : at < length bytes) where
+      -- one turn: the next command, followed
+      pub turn : {y : Command} → x ≡ y → follow (commands bytes n limit (a .turns - 1)) n at (a .picks) links y ≡ whole
+      unfolding commands
+      turn q =
+          let k : a .turns ≡ suc (a .turns - 1) = omega (arith, a .enough) in
+          rw (sym q, e, a .counted) (rw k at (a .rest))
+
+      unfoldable pub along-link : {f t : Board} {v : Bool} → x ≡ Link f t v → Along bytes n limit whole (at + 3) count (flipped links (f .0) (t .0))
+      along-link q = record { turns = a .turns - 1; picks = a .picks; enough = omega (arith, a .enough); counted = a .counted; rest = turn q }
+
+      unfoldable pub along-pick : x ≡ Pick → Along bytes n limit whole (at + 1) (count + 1) links
+      along-pick q =
+          record {
+            turns = a .turns - 1;
+            picks = a .picks ++ (links ∷ []);
+            enough = omega (arith, a .enough);
+            counted = ap (λ (k : ℕ). k + 1) (a .counted) ∙ sym (length-append (a .picks) (links ∷ []));
+            rest = turn q;
+          }
+
+      pub along-end : x ≡ End → whole ≡ ended n (a .picks) (at + 1)
+      along-end q = sym (turn q)
+
+      pub along-boards : {m : ℕ} → x ≡ Boards m → whole ≡ refused cause.Command
+      along-boards q = sym (turn q)
+
+      pub along-not : {r : Refusal} → x ≡ Not r → whole ≡ refused r
+      along-not q = sym (turn q)
+
+-- the file has stopped
+pub stopped : (bytes : List ℕ) (n limit turns at : ℕ) (picks : List (List ℕ)) (links : List ℕ) → length bytes ≤ at
+    → commands bytes n limit turns at picks links ≡ refused cause.Stopped
+unfolding commands next commandAt refuse
+stopped bytes n limit zero at picks links h = refl
+stopped bytes n limit (suc turns) at picks links h = simp (le-leb _ _ h)
+
+module _ {bytes : List ℕ} {n limit : ℕ} {whole : Content} {at count : ℕ} {links : List ℕ} (a : Along bytes n limit whole at count links) where
+  pub along-stop : length bytes ≤ at → whole ≡ refused cause.Stopped
+  along-stop h = sym (a .rest) ∙ stopped bytes n limit (a .turns) at (a .picks) links h

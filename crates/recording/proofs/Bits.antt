@@ -1,0 +1,74 @@
+-- A link flipped changes its own bit and no other: a pick stays one without a forbidden bit. Assumes nothing.
+use mathlib.Core.Path.{_≡_, refl, sym, ap, _∙_}
+use mathlib.Core.Bool.{Bool, true, false}
+use mathlib.Core.List.{List}
+use Prim.Native.Nat.{ℕ, suc, _+_, _-_, _/_, _%_, _^_, _<_}
+use native.Mathlib.Nat.{div-eq-of-lt, mul-mod-left, pow-suc}
+use native.Mathlib.Omega.{arith}
+use borrow.Author.Tests.{ltb-true, ltb-false, eqb-true, eqb-false}
+use lib.Bits.{bitXor, xor-shr, xor-mod, xor-zero-r, xor-lt}
+use lib.Dec.{T, ltb, eqb}
+use lib.ListN.{length, getD, length-set}
+use lib.Pow.{pow-add, pow-lt, shl-shr}
+use lib.Seq.{getD-set-same, getD-set-other}
+use Rattle.model.specs.Recording.{bit, link, Clean}
+use Rattle.model.proofs.Logic.{tr}
+use Rattle.recording.specs.Format.{flipped}
+use Rattle.recording.proofs.Admit.{Linkable}
+
+-- 2 ^ t has bit t only
+pow-bit : (t b : ℕ) → (b ≡ t → ⊥) → 2 ^ t / 2 ^ b % 2 ≡ 0
+pow-bit t b h = by (ltb b t) refl
+  where
+    by : (x : Bool) → ltb b t ≡ x → 2 ^ t / 2 ^ b % 2 ≡ 0
+    by true e =
+        let l = ltb-true b t e in
+        let k : t ≡ suc (t - b - 1) + b = omega arith in
+        rw (k, pow-add, shl-shr, pow-suc) (mul-mod-left (2 ^ (t - b - 1)) 2)
+    by false e =
+        let g = ltb-false b t e in
+        let k : t < b = omega (arith, h) in
+        rw (div-eq-of-lt (pow-lt k))
+
+xor-other : (w t b : ℕ) → (b ≡ t → ⊥) → bit (bitXor w (2 ^ t)) b ≡ bit w b
+unfolding bit
+xor-other w t b h =
+    let e : bitXor w (2 ^ t) / 2 ^ b % 2 ≡ w / 2 ^ b % 2 =
+    rw (xor-shr w (2 ^ t) b, xor-mod (w / 2 ^ b) (2 ^ t / 2 ^ b) 1, pow-bit t b h) (xor-zero-r (w / 2 ^ b % 2)) in
+    ap (λ (x : ℕ). eqb x 1) e
+
+-- word a of the links: the changed one, or as it was
+module _ (links : List ℕ) (f t a : ℕ) where
+  flip-same : f < length links → a ≡ f → getD (flipped links f t) a 0 ≡ bitXor (getD links f 0) (2 ^ t)
+  unfolding flipped
+  flip-same l e = rw e (getD-set-same links f (bitXor (getD links f 0) (2 ^ t)) 0 l)
+
+  flip-other : (a ≡ f → ⊥) → getD (flipped links f t) a 0 ≡ getD links a 0
+  unfolding flipped
+  flip-other h = getD-set-other links f a (bitXor (getD links f 0) (2 ^ t)) 0 h
+
+length-flipped : (links : List ℕ) (f t : ℕ) → length (flipped links f t) ≡ length links
+unfolding flipped
+length-flipped links f t = length-set links f (bitXor (getD links f 0) (2 ^ t))
+
+pub clean-flip : (n : ℕ) (links : List ℕ) (f t : ℕ) → Clean n links → Linkable n f t → Clean n (flipped links f t)
+unfolding link
+clean-flip n links f t c l =
+    record {
+      words = record { size = length-flipped links f t ∙ c .words .size; small = λ a. small a (eqb a f) refl };
+      loopless = λ a m. own a m (eqb a f) refl;
+    }
+  where
+    inside : f < length links
+    inside = omega (arith, c .words .size, l .from)
+
+    small : (a : ℕ) (x : Bool) → eqb a f ≡ x → getD (flipped links f t) a 0 < 2 ^ n
+    small a true e = rw (flip-same links f t a inside (eqb-true a f e)) (xor-lt n (getD links f 0) (2 ^ t) (c .words .small f) (pow-lt (l .to)))
+    small a false e = rw (flip-other links f t a (eqb-false a f e)) (c .words .small a)
+
+    own : (a : ℕ) → T (bit (getD (flipped links f t) a 0) a) → (x : Bool) → eqb a f ≡ x → ⊥
+    own a m true e =
+        let k = eqb-true a f e in
+        let q : a ≡ t → ⊥ = λ z. l .apart (sym k ∙ z) in
+        c .loopless a (tr (ap (λ (w : ℕ). bit w a) (flip-same links f t a inside k) ∙ xor-other (getD links f 0) t a q ∙ ap (λ (i : ℕ). bit (getD links i 0) a) (sym k)) m)
+    own a m false e = c .loopless a (tr (ap (λ (w : ℕ). bit w a) (flip-other links f t a (eqb-false a f e))) m)

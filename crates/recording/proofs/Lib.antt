@@ -1,0 +1,12 @@
+-- The laws of the reader, what later work builds on, and the lemmas of the proofs.
+pub mod Laws
+pub mod Inverse
+pub mod Examples
+pub mod Table
+pub mod Others
+pub mod Admit
+pub mod Along
+pub mod Written
+pub mod Zeros
+pub mod Bits
+pub mod Sound

@@ -1,0 +1,132 @@
+-- What holds of every recording that the commands end in, by one induction on the turns; and what an answer of `examine` says.
+-- Assumes nothing.
+use mathlib.Core.Path.{_≡_, refl, sym, ap, _∙_}
+use mathlib.Core.Bool.{false}
+use mathlib.Core.List.{List, [], _∷_, _++_}
+use Prim.Native.Nat.{ℕ, zero, suc, _+_, _≤_, _<_}
+use native.Mathlib.Omega.{arith}
+use lib.ListN.{length, length-append}
+use Rattle.model.specs.declared.Refusal.{Refusal}
+use Rattle.recording.specs.declared.Command.{Command}
+use Rattle.recording.specs.declared.Command.the-variants.{Boards, Link, Pick, End, Not}
+use Rattle.recording.specs.declared.Part.the-variants as partIs
+use Rattle.recording.specs.Commands.{commandAt}
+use Rattle.recording.specs.Format.{Content, ended, refused, next, headAt, follow, commands, body, opened, recordingAt}
+use Rattle.recording.specs.Answers.{partOf}
+use Rattle.model.specs.Recording.{Clean, Recording}
+use Rattle.model.proofs.Windows.{rec-append}
+use Rattle.lists.specs.Tab.{zeros}
+use Rattle.links.proofs.Bits.{zeros-clean}
+use Rattle.recording.proofs.Admit.{no, linkable, admitted-link, admitted-pick, end-inside, Headed, headed}
+use Rattle.recording.proofs.Bits.{clean-flip}
+
+-- the state on the way
+record Good (bytes : List ℕ) (n limit start at : ℕ) (picks : List (List ℕ)) (links : List ℕ) : Type 0 where
+  on : start ≤ at
+  few : length picks ≤ limit
+  clean : Recording n picks
+  now : Clean n links
+
+-- a recording over n boards, read from a place of the file
+pub record Sound (bytes : List ℕ) (n limit start m : ℕ) (picks : List (List ℕ)) (end : ℕ) : Type 0 where
+  pub boards : m ≡ n
+  pub few : length picks ≤ limit
+  pub clean : Recording n picks
+  pub after : start < end
+  pub inside : end ≤ length bytes
+
+abbrev Lawful : List ℕ → ℕ → ℕ → ℕ → Content → Type 0
+Lawful bytes n limit start (ended m picks end) = Sound bytes n limit start m picks end
+Lawful bytes n limit start (refused r) = Unit
+
+module _ (bytes : List ℕ) (n limit start : ℕ) where
+  step : (more : ℕ → List (List ℕ) → List ℕ → Content)
+      → ((at : ℕ) (picks : List (List ℕ)) (links : List ℕ) → Good bytes n limit start at picks links → Lawful bytes n limit start (more at picks links))
+      → (at : ℕ) (picks : List (List ℕ)) (links : List ℕ) (x : Command) → next bytes n limit at (length picks) links ≡ x
+      → Good bytes n limit start at picks links → Lawful bytes n limit start (follow more n at picks links x)
+  unfolding next
+  step more ih at picks links (Link a b v) e g =
+      let l = admitted-link n limit (length picks) links (commandAt false bytes at) a b v e in
+      ih (at + 3) picks _
+      record { on = omega (arith, g .on); few = g .few; clean = g .clean; now = clean-flip n links (a .0) (b .0) (g .now) (linkable n (a .0) (b .0) (l .able)) }
+  step more ih at picks links Pick e g =
+      let h = admitted-pick n limit (length picks) links (commandAt false bytes at) e in
+      ih (at + 1) (picks ++ (links ∷ [])) links
+      record { on = omega (arith, g .on); few = rw length-append (omega arith); clean = rec-append n picks (links ∷ []) (g .clean) (g .now, tt); now = g .now }
+  step more ih at picks links End e g =
+      let h = end-inside bytes n limit at (length picks) links e in
+      record { boards = refl; few = g .few; clean = g .clean; after = omega (arith, g .on); inside = omega arith }
+  step more ih at picks links (Boards m) e g = tt
+  step more ih at picks links (Not r) e g = tt
+
+  lawful : (turns at : ℕ) (picks : List (List ℕ)) (links : List ℕ) → Good bytes n limit start at picks links
+      → Lawful bytes n limit start (commands bytes n limit turns at picks links)
+  unfolding commands
+  lawful zero at picks links g = tt
+  lawful (suc turns) at picks links g = step (commands bytes n limit turns) (lawful turns) at picks links _ refl g
+
+  body-lawful : Lawful bytes n limit start (body limit bytes start n)
+  body-lawful = lawful (length bytes) (start + 2) [] (zeros n) record { on = omega arith; few = omega arith; clean = tt; now = zeros-clean n }
+
+-- ---- what an ended reading says
+
+pub record Found (limit room : ℕ) (bytes : List ℕ) (start n : ℕ) (picks : List (List ℕ)) (end : ℕ) : Type 0 where
+  pub head : Headed limit room bytes start n
+  pub whole : body limit bytes start n ≡ ended n picks end
+  pub sound : Sound bytes n limit start n picks end
+
+module _ (limit room : ℕ) (bytes : List ℕ) (start n : ℕ) (picks : List (List ℕ)) (end : ℕ) where
+  by-body : (m : ℕ) → Headed limit room bytes start m → (o : Content) → body limit bytes start m ≡ o → Lawful bytes m limit start o
+      → o ≡ ended n picks end → Found limit room bytes start n picks end
+  by-body m h (ended k ps e) q l i =
+      let b = l .boards in
+      let en : m ≡ n = cc in
+      let ep : ps ≡ picks = cc in
+      let ee : e ≡ end = cc in
+      rw (sym en, sym ep, sym ee)
+      record {
+        head = h;
+        whole = q ∙ ap (λ (x : ℕ). ended x ps e) b;
+        sound = record { boards = refl; few = l .few; clean = l .clean; after = l .after; inside = l .inside };
+      }
+  by-body m h (refused r) q l i = absurd (no cc)
+
+  by-head : (x : Command) → headAt limit room bytes start ≡ x → opened limit bytes start x ≡ ended n picks end → Found limit room bytes start n picks end
+  by-head (Boards m) q i = by-body m (headed limit room bytes start m q) _ refl (body-lawful bytes m limit start) i
+  by-head (Link a b v) q i = absurd (no cc)
+  by-head Pick q i = absurd (no cc)
+  by-head End q i = absurd (no cc)
+  by-head (Not r) q i = absurd (no cc)
+
+  pub found : recordingAt limit room bytes start ≡ ended n picks end → Found limit room bytes start n picks end
+  unfolding recordingAt
+  found i = by-head _ refl i
+
+-- ---- what a caller of `examine` learns from its answer
+
+pub record Answered (limit room : ℕ) (bytes : List ℕ) (start n count end : ℕ) : Type 0 where
+  pub picks : List (List ℕ)
+  pub counted : length picks ≡ count
+  pub read : recordingAt limit room bytes start ≡ ended n picks end
+  pub found : Found limit room bytes start n picks end
+
+pub answered : (limit room : ℕ) (bytes : List ℕ) (start n count end : ℕ)
+    → partOf (recordingAt limit room bytes start) ≡ partIs.Ended n count end → Answered limit room bytes start n count end
+answered limit room bytes start n count end q = by (recordingAt limit room bytes start) refl q
+  where
+    by : (o : Content) → recordingAt limit room bytes start ≡ o → partOf o ≡ partIs.Ended n count end → Answered limit room bytes start n count end
+    by (ended m ps e) i j =
+        let em : m ≡ n = cc in
+        let ee : e ≡ end = cc in
+        let ec : length ps ≡ count = cc in
+        let k : recordingAt limit room bytes start ≡ ended n ps end = cc in
+        record { picks = ps; counted = ec; read = k; found = found limit room bytes start n ps end k }
+    by (refused r) i j = absurd (no cc)
+
+is-refused : (o : Content) (r : Refusal) → partOf o ≡ partIs.Refused r → o ≡ refused r
+is-refused (ended n picks end) r q = absurd (no cc)
+is-refused (refused s) r q = let e : s ≡ r = cc in ap refused e
+
+pub answered-not : (limit room : ℕ) (bytes : List ℕ) (start : ℕ) (r : Refusal)
+    → partOf (recordingAt limit room bytes start) ≡ partIs.Refused r → recordingAt limit room bytes start ≡ refused r
+answered-not limit room bytes start r q = is-refused (recordingAt limit room bytes start) r q

@@ -1,0 +1,27 @@
+-- `recording::is_unchanged` meets its contract.
+-- Assumes nothing.
+use Rattle.model.specs.Recording.{link}
+use borrow.Author.Needs.{needs}
+use Rattle.recording.proofs.is_unchanged.Statement.{statement}
+use Rattle.recording.proofs.is_unchanged.Tie as tie
+
+mul-linked : tie.Need-mul-linked
+mul-linked c = search needs
+
+shared-slice-read-linked : tie.Need-shared-slice-read-linked
+shared-slice-read-linked c = search needs
+
+linked-requires : tie.Need-linked-requires
+linked-requires c κs = search needs
+
+returns : tie.Need-returns
+unfolding link
+returns c = simp (c .if1 .taken, c .before .linked .ensures)
+
+returns-2 : tie.Need-returns-2
+unfolding link
+returns-2 c = simp (c .if1 .left, c .before .linked .ensures)
+
+pub is-unchanged-spec : {M : Type 1} → statement M
+is-unchanged-spec =
+    tie.close (tie.spec mul-linked shared-slice-read-linked linked-requires returns returns-2)

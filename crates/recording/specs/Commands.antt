@@ -1,0 +1,92 @@
+-- The commands of a recording file: 01's table of operand counts, and a command taken apart at a place of the file.
+use mathlib.Core.Bool.{Bool, true, false, not, _&&_}
+use mathlib.Core.List.{List, [], _∷_}
+use Prim.Native.Nat.{ℕ, _+_}
+use lib.Dec.{eqb, ltb, leb}
+use lib.ListN.{length, getD}
+use Rattle.model.specs.declared.Refusal.{Refusal}
+use Rattle.model.specs.declared.Refusal.the-variants as cause
+use Rattle.recording.specs.declared.Shape.{Shape}
+use Rattle.recording.specs.declared.Width.{Width}
+use Rattle.recording.specs.declared.Width.the-variants.{Known, Unknown}
+use Rattle.recording.specs.declared.Command.{Command}
+use Rattle.recording.specs.declared.Command.the-variants.{Boards, Link, Pick, End, Not}
+
+-- command byte and operand count
+abbrev pub shapes : List Shape
+shapes =
+    record { byte = 0x42; operands = 1 }
+    ∷ record { byte = 0x4F; operands = 2 }
+    ∷ record { byte = 0x53; operands = 2 }
+    ∷ record { byte = 0x50; operands = 0 }
+    ∷ record { byte = 0x45; operands = 0 }
+    ∷ []
+
+abbrev pub known : Bool → Width → Width → Width
+known true a b = a
+known false a b = b
+
+-- the first entry with that byte
+unfoldable pub lookup : List Shape → ℕ → Width
+lookup [] b = Unknown
+lookup (s ∷ ss) b = known (eqb (s .byte) b) (Known (s .operands)) (lookup ss b)
+
+unfoldable pub widthOf : ℕ → Width
+unfolding lookup
+widthOf b = lookup shapes b
+
+-- a cause that holds refuses the command; otherwise what follows is looked at
+unfoldable pub refuse : Bool → Refusal → Command → Command
+refuse true r c = Not r
+refuse false r c = c
+
+abbrev pub either : Bool → Command → Command → Command
+either true a b = a
+either false a b = b
+
+-- a known command byte with its operands; 4F opens a link, 53 shuts it
+unfoldable pub commandOf : ℕ → ℕ → ℕ → Command
+commandOf b x y =
+    either (eqb b 0x42) (Boards x)
+    (either (eqb b 0x4F) (Link (record { 0 = x }) (record { 0 = y }) true)
+    (either (eqb b 0x53) (Link (record { 0 = x }) (record { 0 = y }) false)
+    (either (eqb b 0x50) Pick End)))
+
+-- 42 stands first, and only there
+abbrev pub misplaced : Bool → ℕ → Bool
+misplaced true b = not (eqb b 0x42)
+misplaced false b = eqb b 0x42
+
+abbrev pub takenApart : Width → List ℕ → ℕ → Command
+takenApart Unknown bytes at = Not cause.Command
+takenApart (Known k) bytes at =
+    refuse (ltb (length bytes) (at + 1 + k)) cause.Stopped (commandOf (getD bytes at 0) (getD bytes (at + 1) 0) (getD bytes (at + 2) 0))
+
+-- the command at a place of the file: 12 where the file has stopped, 11 for its byte, 12 inside its operands
+unfoldable pub commandAt : Bool → List ℕ → ℕ → Command
+commandAt first bytes at =
+    refuse (leb (length bytes) at) cause.Stopped
+    (refuse (misplaced first (getD bytes at 0)) cause.Command
+    (takenApart (widthOf (getD bytes at 0)) bytes at))
+
+-- ---- the rule of the table
+
+-- how many operands a command has
+abbrev pub operandsIn : Command → ℕ
+operandsIn (Boards n) = 1
+operandsIn (Link a b v) = 2
+operandsIn Pick = 0
+operandsIn End = 0
+operandsIn (Not r) = 0
+
+abbrev pub isWidth : Width → ℕ → Bool
+isWidth (Known k) m = eqb k m
+isWidth Unknown m = false
+
+-- an entry is found by its byte, and its count is that of the byte's command, whatever the operands
+unfoldable pub ruled : ℕ → ℕ → Shape → Bool
+ruled x y s = isWidth (widthOf (s .byte)) (s .operands) && eqb (operandsIn (commandOf (s .byte) x y)) (s .operands)
+
+abbrev pub everyShape : (Shape → Bool) → List Shape → Bool
+everyShape f [] = true
+everyShape f (s ∷ ss) = f s && everyShape f ss
