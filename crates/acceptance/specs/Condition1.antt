@@ -8,6 +8,9 @@ use mathlib.Core.List.{List, [], _∷_, _++_}
 use Prim.Native.Nat.{ℕ, zero, suc, _+_, _/_, _%_}
 use lib.Dec.{T, eqb, eqb→eq, leb, ltb}
 use lib.ListN.{length, drop}
+use Rattle.model.specs.declared.Refusal.{Refusal}
+use Rattle.model.specs.declared.Refusal.the-variants as cause
+use Rattle.model.specs.Refusals.{number}
 use Rattle.model.proofs.Logic.{F→≡}
 use Rattle.checks.specs.Checks.{clean, listed}
 use Rattle.checks.specs.Lent.{cleanPicks}
@@ -20,6 +23,10 @@ use Rattle.calls.specs.Answers.{Outcome, outcome}
 use Rattle.calls.specs.Calls.{stop, needed, openVerdict, openedArea, openSays, openLeaves, pickVerdict, pickSays, pickLeaves, reportSays, lengthSays, wholeVerdict, wholeAfter, wholeReport, wholeSays, wholeLeaves}
 use Rattle.calls.proofs.Verdicts.{refused-state}
 use Rattle.reach.specs.Tables.{tableVerdict, tableOf, tableLeaves}
+use Rattle.recording.specs.Format.{Content, ended, refused, readFile}
+use Rattle.recording.specs.Answers.{fileSays, readSays, readLeaves}
+use Rattle.recording.proofs.Causes.{ofFile, Caused, caused-file}
+use Rattle.recording.proofs.Laws.{refused-law}
 use Rattle.law.specs.Whole.{whole-refused as refused-run}
 
 -- x is one of the numbers listed
@@ -81,6 +88,25 @@ table-numbers n w out =
     among-stop (not (between 2 n 32)) 1 _ _ (among-stop (not (eqb (length w % n) 0)) 10 _ _ (among-stop (eqb (length w / n) 0) 8 _ _
     (among-stop (ltb 4096 (length w / n)) 3 _ _ (among-stop (ltb (length out) n) 4 _ _ (among-stop (not (cleanPicks n w (length w / n))) 5 0 _ (first refl))))))
 
+file-number : (r : Refusal) → T (ofFile r) → Among (number r) (3 ∷ 11 ∷ 12 ∷ 1 ∷ 4 ∷ 13 ∷ 14 ∷ 7 ∷ 15 ∷ 0 ∷ [])
+file-number cause.Picks h = first refl
+file-number cause.Command h = later (first refl)
+file-number cause.Stopped h = later (later (first refl))
+file-number cause.Boards h = later (later (later (first refl)))
+file-number cause.Room h = later (later (later (later (first refl))))
+file-number cause.Operands h = later (later (later (later (later (first refl)))))
+file-number cause.Unchanged h = later (later (later (later (later (later (first refl))))))
+file-number cause.Full h = later (later (later (later (later (later (later (first refl)))))))
+file-number cause.Trailing h = later (later (later (later (later (later (later (later (first refl))))))))
+
+pub reading-numbers : (limit : ℕ) (bytes out : List ℕ) → Among (readSays limit bytes out .refusal) (3 ∷ 11 ∷ 12 ∷ 1 ∷ 4 ∷ 13 ∷ 14 ∷ 7 ∷ 15 ∷ 0 ∷ [])
+unfolding readSays
+reading-numbers limit bytes out = go (readFile limit (length out) bytes) (caused-file limit (length out) bytes)
+  where
+    go : (o : Content) → Caused o → Among (fileSays o .refusal) (3 ∷ 11 ∷ 12 ∷ 1 ∷ 4 ∷ 13 ∷ 14 ∷ 7 ∷ 15 ∷ 0 ∷ [])
+    go (ended n picks end) h = later (later (later (later (later (later (later (later (later (first refl)))))))))
+    go (refused r) h = file-number r h
+
 -- ---- a refused call leaves everything as it was
 
 not-zero : (x : ℕ) → (x ≡ 0 → ⊥) → eqb x 0 ≡ false
@@ -106,3 +132,6 @@ whole-refused = refused-run
 pub table-refused : (n : ℕ) (w out : List ℕ) → (tableVerdict n w out ≡ 0 → ⊥) → tableLeaves n w out ≡ out
 unfolding tableLeaves
 table-refused n w out f = ap (λ (b : Bool). either b (tableOf n w ++ drop n out) out) (not-zero (tableVerdict n w out) f)
+
+pub reading-refused : (limit : ℕ) (bytes out : List ℕ) → (readSays limit bytes out .refusal ≡ 0 → ⊥) → readLeaves limit bytes out ≡ out
+reading-refused = refused-law
