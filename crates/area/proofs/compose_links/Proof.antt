@@ -43,7 +43,15 @@ same-length c = search needs
 
 returns : tie.Need-returns
 unfolding composeAt
-returns c = c .before .before .compose-into .ensures ∙ simp (copy-words 32 _ _ (c .before .before .before .before .before .before .before .before .before .before .before .before .width .ensures) (c .before .before .before .before .before .before .before .before .before .before .before .before .before .before .pre .1 .1 .1 .0) (c .before .before .before .before .before .before .before .before .before .before .links-part .ensures), copy-words 32 _ _ (c .before .before .before .before .before .before .before .before .before .before .before .before .width .ensures) (c .before .before .before .before .before .before .before .before .before .before .before .before .before .before .pre .1 .1 .1 .1) (c .before .before .before .before .before .before .before .before .links-part2 .ensures))
+returns c =
+    let c12 = c .before .before .before .before .before .before .before .before .before .before .before .before in
+    let c14 = c12 .before .before in
+    c .before .before .compose-into .ensures ∙ simp (
+      copy-words 32 _ _ (c12 .width .ensures) (c14 .pre .1 .1 .1 .0)
+          (c .before .before .before .before .before .before .before .before .before .before .links-part .ensures),
+      copy-words 32 _ _ (c12 .width .ensures)
+          (c14 .pre .1 .1 .1 .1) (c .before .before .before .before .before .before .before .before .links-part2 .ensures),
+    )
 
 pub compose-links-spec : {M : Type 1} → statement M
 compose-links-spec =

@@ -15,7 +15,11 @@ times-part-requires : tie.Need-times-part-requires
 times-part-requires c κs = let q = c .before .width .ensures in let h = c .before .before .before .pre in (omega (arith, width-most (c .before .before .before .args .measure) _ (h .0)), has-at q (h .1 .1 .0))
 
 times-part-requires-2 : tie.Need-times-part-requires-2
-times-part-requires-2 c κs = let q = c .before .before .before .width .ensures in let h = c .before .before .before .before .before .pre in (omega (arith, width-most (c .before .before .before .before .before .args .measure) _ (h .0)), has-at q (h .1 .1 .1))
+times-part-requires-2 c κs =
+    let c5 = c .before .before .before .before .before in
+    let q = c .before .before .before .width .ensures in
+    let h = c5 .pre in
+    (omega (arith, width-most (c5 .args .measure) _ (h .0)), has-at q (h .1 .1 .1))
 
 sub-compose-into : tie.Need-sub-compose-into
 sub-compose-into c = search needs
@@ -24,7 +28,10 @@ part-compose-into-start : tie.Need-part-compose-into-start
 part-compose-into-start c = search needs
 
 part-compose-into-end : tie.Need-part-compose-into-end
-part-compose-into-end c = let q = c .before .before .before .before .before .before .width .ensures in omega (arith, width-most (c .before .before .before .before .before .before .before .before .args .measure) _ (c .before .before .before .before .before .before .before .before .pre .0))
+part-compose-into-end c =
+    let c8 = c .before .before .before .before .before .before .before .before in
+    let q = c .before .before .before .before .before .before .width .ensures in
+    omega (arith, width-most (c8 .args .measure) _ (c8 .pre .0))
 
 sub-compose-into-2 : tie.Need-sub-compose-into-2
 sub-compose-into-2 c = search needs
@@ -33,7 +40,10 @@ part-compose-into-start-2 : tie.Need-part-compose-into-start-2
 part-compose-into-start-2 c = search needs
 
 part-compose-into-end-2 : tie.Need-part-compose-into-end-2
-part-compose-into-end-2 c = let q = c .before .before .before .before .before .before .before .before .width .ensures in omega (arith, width-most (c .before .before .before .before .before .before .before .before .before .before .args .measure) _ (c .before .before .before .before .before .before .before .before .before .before .pre .0))
+part-compose-into-end-2 c =
+    let c10 = c .before .before .before .before .before .before .before .before .before .before in
+    let q = c .before .before .before .before .before .before .before .before .width .ensures in
+    omega (arith, width-most (c10 .args .measure) _ (c10 .pre .0))
 
 compose-into-requires : tie.Need-compose-into-requires
 compose-into-requires c κs = search needs
@@ -43,7 +53,15 @@ same-length c = search needs
 
 returns : tie.Need-returns
 unfolding composeAt
-returns c = c .before .before .compose-into .ensures ∙ simp (copy-words 2048 _ _ (c .before .before .before .before .before .before .before .before .before .before .before .before .width .ensures) (c .before .before .before .before .before .before .before .before .before .before .before .before .before .before .pre .1 .1 .0) (c .before .before .before .before .before .before .before .before .before .before .times-part .ensures), copy-words 2048 _ _ (c .before .before .before .before .before .before .before .before .before .before .before .before .width .ensures) (c .before .before .before .before .before .before .before .before .before .before .before .before .before .before .pre .1 .1 .1) (c .before .before .before .before .before .before .before .before .times-part2 .ensures))
+returns c =
+    let c12 = c .before .before .before .before .before .before .before .before .before .before .before .before in
+    let c14 = c12 .before .before in
+    c .before .before .compose-into .ensures ∙ simp (
+      copy-words 2048 _ _ (c12 .width .ensures) (c14 .pre .1 .1 .0)
+          (c .before .before .before .before .before .before .before .before .before .before .times-part .ensures),
+      copy-words 2048 _ _ (c12 .width .ensures)
+          (c14 .pre .1 .1 .1) (c .before .before .before .before .before .before .before .before .times-part2 .ensures),
+    )
 
 pub compose-times-spec : {M : Type 1} → statement M
 compose-times-spec =

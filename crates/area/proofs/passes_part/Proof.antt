@@ -54,7 +54,11 @@ part-passes-end-2 : tie.Need-part-passes-end-2
 part-passes-end-2 c = omega (arith, fits-at (c .before .width .ensures) (c .before .before .before .pre .1 .1))
 
 passes-requires : tie.Need-passes-requires
-passes-requires c κs = let w = width-least (c .before .before .before .before .args .measure) (c .before .before .before .before .args .n) in let q = c .before .before .width .ensures in (search needs, (omega arith, omega arith))
+passes-requires c κs =
+    let c4 = c .before .before .before .before in
+    let w = width-least (c4 .args .measure) (c4 .args .n) in
+    let q = c .before .before .width .ensures in
+    (search needs, (omega arith, omega arith))
 
 returns : tie.Need-returns
 unfolding part

@@ -35,7 +35,9 @@ is-listed-requires : tie.Need-is-listed-requires
 is-listed-requires c κs = search needs
 
 returns : tie.Need-returns
-returns c = c .is-listed .ensures ∙ ap (λ (x : List ℕ). listed (c .before .before .before .before .args .n) x (c .before .before .before .before .args .words .now)) (third-lent (c .before .before .before .before .args .n) (c .before .before .before .before .args .limit) (c .before .before .before .before .args .area .now))
+returns c =
+    let c4 = c .before .before .before .before in
+    c .is-listed .ensures ∙ ap (λ (x : List ℕ). listed (c4 .args .n) x (c4 .args .words .now)) (third-lent (c4 .args .n) (c4 .args .limit) (c4 .args .area .now))
 
 pub is-listed-spec : {M : Type 1} → statement M
 is-listed-spec =

@@ -15,7 +15,12 @@ add-result : tie.Need-add-result
 add-result c = search needs
 
 mul-result : tie.Need-mul-result
-mul-result c = omega (arith, needed-most (c .before .before .args .measure) (c .before .before .args .n) (c .before .before .args .limit) (c .width .result) (c .before .before .pre .0) (c .before .before .pre .1) (c .width .ensures))
+mul-result c =
+    omega (
+      arith,
+      needed-most (c .before .before .args .measure) (c .before .before .args .n) (c .before .before .args .limit) (c .width .result)
+          (c .before .before .pre .0) (c .before .before .pre .1) (c .width .ensures),
+    )
 
 returns : tie.Need-returns
 returns c = simp (c .width .ensures)

@@ -21,7 +21,12 @@ unfolding lengthSays
 returns-2 c = simp (sym (c .before .before .before .is-sound .ensures) ∙ not-false _ (c .before .before .if1 .left), eq-eqb _ _ (c .if2 .taken))
 
 report-requires : tie.Need-report-requires
-report-requires c κs = let s = sound-says _ (sym (c .before .before .before .is-sound .ensures) ∙ not-false _ (c .before .before .if1 .left)) in let ne = c .if2 .left in let h = s .taken-high in let k = s .limit-high in (s .start-taken (omega arith), omega arith)
+report-requires c κs =
+    let s = sound-says _ (sym (c .before .before .before .is-sound .ensures) ∙ not-false _ (c .before .before .if1 .left)) in
+    let ne = c .if2 .left in
+    let h = s .taken-high in
+    let k = s .limit-high in
+    (s .start-taken (omega arith), omega arith)
 
 returns-3 : tie.Need-returns-3
 unfolding lengthSays

@@ -19,7 +19,10 @@ open-area-requires : tie.Need-open-area-requires
 open-area-requires c κs = open-clears (open-sound _ _ _ _ _ (sym (c .before .before .before .open-verdict .ensures) ∙ ap verdictSays (c .before .enum-told .given .1)))
 
 open-requires : tie.Need-open-requires
-open-requires c κs = let o = open-sound _ _ _ _ _ (sym (c .before .before .before .before .before .before .open-verdict .ensures) ∙ ap verdictSays (c .before .before .before .before .enum-told .given .1)) in (o .measure-low, o .measure-high)
+open-requires c κs =
+    let o = open-sound _ _ _ _ _ (sym (c .before .before .before .before .before .before .open-verdict .ensures) ∙ ap verdictSays
+    (c .before .before .before .before .enum-told .given .1)) in
+    (o .measure-low, o .measure-high)
 
 enum-known-c : tie.Need-enum-known-c
 enum-known-c c = search needs
@@ -29,14 +32,19 @@ same-length c = search needs
 
 returns : tie.Need-returns
 unfolding openSays openLeaves
-returns c = let e = sym (c .before .before .before .before .before .before .before .open-verdict .ensures) ∙ ap verdictSays (c .before .before .before .before .before .enum-told .given .1) in simp e (cc (c .«open» .ensures), c .before .before .before .open-area .ensures)
+returns c =
+    let e = sym (c .before .before .before .before .before .before .before .open-verdict .ensures) ∙ ap verdictSays
+    (c .before .before .before .before .before .enum-told .given .1) in
+    simp e (cc (c .«open» .ensures), c .before .before .before .open-area .ensures)
 
 same-length-2 : tie.Need-same-length-2
 same-length-2 c = search needs
 
 returns-2 : tie.Need-returns-2
 unfolding openSays openLeaves nowhere
-returns-2 c = let e = sym (c .before .before .before .open-verdict .ensures) ∙ ap verdictSays (c .before .c .given .1) in (simp (e, number-some (c .before .c .given .0 .0)), simp (e, number-some (c .before .c .given .0 .0)))
+returns-2 c =
+    let e = sym (c .before .before .before .open-verdict .ensures) ∙ ap verdictSays (c .before .c .given .1) in
+    (simp (e, number-some (c .before .c .given .0 .0)), simp (e, number-some (c .before .c .given .0 .0)))
 
 pub open-spec : {M : Type 1} → statement M
 open-spec =

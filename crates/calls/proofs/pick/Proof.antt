@@ -28,13 +28,21 @@ same-length : tie.Need-same-length
 same-length c = search needs
 
 returns : tie.Need-returns
-returns c = let e = sym (c .before .before .before .before .before .before .pick-verdict .ensures) ∙ ap verdictSays (c .before .before .before .before .enum-told .given .1) in let q = taken-state (c .before .before .before .before .before .before .before .before .before .before .args .p) (c .before .before .before .before .before .before .before .before .before .before .args .area .now) (c .before .before .before .before .before .before .before .before .before .before .args .words .now) e in (simp (e, c .before .before .step .ensures .0, q), c .before .before .step .ensures .1 ∙ sym (ap (λ (x : State). x .area) q))
+returns c =
+    let c10 = c .before .before .before .before .before .before .before .before .before .before in
+    let e = sym (c .before .before .before .before .before .before .pick-verdict .ensures) ∙ ap verdictSays (c .before .before .before .before .enum-told .given .1) in
+    let q = taken-state (c10 .args .p) (c10 .args .area .now) (c10 .args .words .now) e in
+    (simp (e, c .before .before .step .ensures .0, q), c .before .before .step .ensures .1 ∙ sym (ap (λ (x : State). x .area) q))
 
 same-length-2 : tie.Need-same-length-2
 same-length-2 c = search needs
 
 returns-2 : tie.Need-returns-2
-returns-2 c = let e = sym (c .before .before .before .pick-verdict .ensures) ∙ ap verdictSays (c .before .c .given .1) in let q = refused-state (c .before .before .before .before .before .before .before .args .p) (c .before .before .before .before .before .before .before .args .area .now) (c .before .before .before .before .before .before .before .args .words .now) (ap (λ (x : ℕ). eqb x 0) e ∙ number-some (c .before .c .given .0 .0)) in (simp (e, q), sym (ap (λ (x : State). x .area) q))
+returns-2 c =
+    let c7 = c .before .before .before .before .before .before .before in
+    let e = sym (c .before .before .before .pick-verdict .ensures) ∙ ap verdictSays (c .before .c .given .1) in
+    let q = refused-state (c7 .args .p) (c7 .args .area .now) (c7 .args .words .now) (ap (λ (x : ℕ). eqb x 0) e ∙ number-some (c .before .c .given .0 .0)) in
+    (simp (e, q), sym (ap (λ (x : State). x .area) q))
 
 pub pick-spec : {M : Type 1} → statement M
 pick-spec =

@@ -23,36 +23,76 @@ returns-2 c = stop-step _ (passed-by (c .before .before .before .is-sound .ensur
 
 returns-3 : tie.Need-returns-3
 unfolding pickVerdict
-returns-3 c = stop-step _ (passed-by (c .before .before .before .before .is-sound .ensures) (c .before .before .before .if1 .left)) (stop-step _ (lt-leb _ _ (c .before .if2 .left)) (stop-here _ (simp (ne-eqb _ _ (c .if3 .taken)))))
+returns-3 c =
+    stop-step _ (passed-by (c .before .before .before .before .is-sound .ensures) (c .before .before .before .if1 .left)) (stop-step _ (lt-leb _ _ (c .before .if2 .left))
+    (stop-here _ (simp (ne-eqb _ _ (c .if3 .taken)))))
 
 is-clean-requires : tie.Need-is-clean-requires
 is-clean-requires c κs = let s = sound-says _ (holds-by (c .before .before .before .before .is-sound .ensures) (c .before .before .before .if1 .left)) in (s .boards-high, omega (arith, c .if3 .left))
 
 returns-4 : tie.Need-returns-4
 unfolding pickVerdict
-returns-4 c = stop-step _ (passed-by (c .before .before .before .before .before .before .is-sound .ensures) (c .before .before .before .before .before .if1 .left)) (stop-step _ (lt-leb _ _ (c .before .before .before .if2 .left)) (stop-step _ (simp (eq-eqb _ _ (c .before .before .if3 .left))) (stop-here _ (failed-by (c .before .is-clean .ensures) (c .if4 .taken)))))
+returns-4 c =
+    stop-step _ (passed-by (c .before .before .before .before .before .before .is-sound .ensures) (c .before .before .before .before .before .if1 .left)) (stop-step _
+    (lt-leb _ _ (c .before .before .before .if2 .left)) (stop-step _ (simp (eq-eqb _ _ (c .before .before .if3 .left))) (stop-here _ (failed-by
+    (c .before .is-clean .ensures) (c .if4 .taken)))))
 
 is-short-requires : tie.Need-is-short-requires
 is-short-requires c κs = let s = sound-says _ (holds-by (c .before .before .before .before .before .before .is-sound .ensures) (c .before .before .before .before .before .if1 .left)) in (s .boards-high, s .limit-high)
 
 returns-5 : tie.Need-returns-5
 unfolding pickVerdict
-returns-5 c = stop-step _ (passed-by (c .before .before .before .before .before .before .before .before .is-sound .ensures) (c .before .before .before .before .before .before .before .if1 .left)) (stop-step _ (lt-leb _ _ (c .before .before .before .before .before .if2 .left)) (stop-step _ (simp (eq-eqb _ _ (c .before .before .before .before .if3 .left))) (stop-step _ (passed-by (c .before .before .before .is-clean .ensures) (c .before .before .if4 .left)) (stop-here _ (sym (c .before .is-short .ensures) ∙ c .if5 .taken)))))
+returns-5 c =
+    stop-step _ (passed-by (c .before .before .before .before .before .before .before .before .is-sound .ensures)
+    (c .before .before .before .before .before .before .before .if1 .left)) (stop-step _ (lt-leb _ _ (c .before .before .before .before .before .if2 .left)) (stop-step _
+    (simp (eq-eqb _ _ (c .before .before .before .before .if3 .left))) (stop-step _ (passed-by (c .before .before .before .is-clean .ensures)
+    (c .before .before .if4 .left)) (stop-here _ (sym (c .before .is-short .ensures) ∙ c .if5 .taken)))))
 
 returns-6 : tie.Need-returns-6
 unfolding pickVerdict
-returns-6 c = stop-step _ (passed-by (c .before .before .before .before .before .before .before .before .before .is-sound .ensures) (c .before .before .before .before .before .before .before .before .if1 .left)) (stop-step _ (lt-leb _ _ (c .before .before .before .before .before .before .if2 .left)) (stop-step _ (simp (eq-eqb _ _ (c .before .before .before .before .before .if3 .left))) (stop-step _ (passed-by (c .before .before .before .before .is-clean .ensures) (c .before .before .before .if4 .left)) (stop-step _ (sym (c .before .before .is-short .ensures) ∙ c .before .if5 .left) (stop-step _ (simp (ne-eqb _ _ (c .if6 .taken))) refl)))))
+returns-6 c =
+    stop-step _ (passed-by (c .before .before .before .before .before .before .before .before .before .is-sound .ensures)
+    (c .before .before .before .before .before .before .before .before .if1 .left)) (stop-step _ (lt-leb _ _
+    (c .before .before .before .before .before .before .if2 .left)) (stop-step _ (simp (eq-eqb _ _ (c .before .before .before .before .before .if3 .left))) (stop-step _
+    (passed-by (c .before .before .before .before .is-clean .ensures) (c .before .before .before .if4 .left)) (stop-step _ (sym
+    (c .before .before .is-short .ensures) ∙ c .before .if5 .left) (stop-step _ (simp (ne-eqb _ _ (c .if6 .taken))) refl)))))
 
 is-listed-requires : tie.Need-is-listed-requires
-is-listed-requires c κs = let s = sound-says _ (holds-by (c .before .before .before .before .before .before .before .before .before .is-sound .ensures) (c .before .before .before .before .before .before .before .before .if1 .left)) in (s .boards-high, (s .limit-high, (sym (c .before .before .before .before .before .if3 .left), links-room _ _ _ _ (c .if6 .left) (not-short _ _ (sym (c .before .before .is-short .ensures) ∙ c .before .if5 .left)))))
+is-listed-requires c κs =
+    let s = sound-says _ (holds-by (c .before .before .before .before .before .before .before .before .before .is-sound .ensures)
+    (c .before .before .before .before .before .before .before .before .if1 .left)) in (
+      s .boards-high,
+      (
+        s .limit-high,
+        (
+          sym (c .before .before .before .before .before .if3 .left),
+          links-room _ _ _ _ (c .if6 .left) (not-short _ _ (sym
+              (c .before .before .is-short .ensures) ∙ c .before .if5 .left)),
+        ),
+      ),
+    )
 
 returns-7 : tie.Need-returns-7
 unfolding pickVerdict
-returns-7 c = stop-step _ (passed-by (c .before .before .before .before .before .before .before .before .before .before .before .is-sound .ensures) (c .before .before .before .before .before .before .before .before .before .before .if1 .left)) (stop-step _ (lt-leb _ _ (c .before .before .before .before .before .before .before .before .if2 .left)) (stop-step _ (simp (eq-eqb _ _ (c .before .before .before .before .before .before .before .if3 .left))) (stop-step _ (passed-by (c .before .before .before .before .before .before .is-clean .ensures) (c .before .before .before .before .before .if4 .left)) (stop-step _ (sym (c .before .before .before .before .is-short .ensures) ∙ c .before .before .before .if5 .left) (stop-here _ (simp (eq-eqb _ _ (c .before .before .if6 .left)) (failed-by (c .before .is-listed .ensures) (c .if7 .taken))))))))
+returns-7 c =
+    stop-step _ (passed-by (c .before .before .before .before .before .before .before .before .before .before .before .is-sound .ensures)
+    (c .before .before .before .before .before .before .before .before .before .before .if1 .left)) (stop-step _ (lt-leb _ _
+    (c .before .before .before .before .before .before .before .before .if2 .left)) (stop-step _ (simp (eq-eqb _ _
+    (c .before .before .before .before .before .before .before .if3 .left))) (stop-step _ (passed-by
+    (c .before .before .before .before .before .before .is-clean .ensures) (c .before .before .before .before .before .if4 .left)) (stop-step _ (sym
+    (c .before .before .before .before .is-short .ensures) ∙ c .before .before .before .if5 .left) (stop-here _ (simp (eq-eqb _ _ (c .before .before .if6 .left))
+    (failed-by (c .before .is-listed .ensures) (c .if7 .taken))))))))
 
 returns-8 : tie.Need-returns-8
 unfolding pickVerdict
-returns-8 c = stop-step _ (passed-by (c .before .before .before .before .before .before .before .before .before .before .before .is-sound .ensures) (c .before .before .before .before .before .before .before .before .before .before .if1 .left)) (stop-step _ (lt-leb _ _ (c .before .before .before .before .before .before .before .before .if2 .left)) (stop-step _ (simp (eq-eqb _ _ (c .before .before .before .before .before .before .before .if3 .left))) (stop-step _ (passed-by (c .before .before .before .before .before .before .is-clean .ensures) (c .before .before .before .before .before .if4 .left)) (stop-step _ (sym (c .before .before .before .before .is-short .ensures) ∙ c .before .before .before .if5 .left) (stop-step _ (simp (eq-eqb _ _ (c .before .before .if6 .left)) (passed-by (c .before .is-listed .ensures) (c .if7 .left))) refl)))))
+returns-8 c =
+    stop-step _ (passed-by (c .before .before .before .before .before .before .before .before .before .before .before .is-sound .ensures)
+    (c .before .before .before .before .before .before .before .before .before .before .if1 .left)) (stop-step _ (lt-leb _ _
+    (c .before .before .before .before .before .before .before .before .if2 .left)) (stop-step _ (simp (eq-eqb _ _
+    (c .before .before .before .before .before .before .before .if3 .left))) (stop-step _ (passed-by
+    (c .before .before .before .before .before .before .is-clean .ensures) (c .before .before .before .before .before .if4 .left)) (stop-step _ (sym
+    (c .before .before .before .before .is-short .ensures) ∙ c .before .before .before .if5 .left) (stop-step _ (simp (eq-eqb _ _ (c .before .before .if6 .left))
+    (passed-by (c .before .is-listed .ensures) (c .if7 .left))) refl)))))
 
 pub pick-verdict-spec : {M : Type 1} → statement M
 pick-verdict-spec =

@@ -34,7 +34,9 @@ part-t-start : tie.Need-part-t-start Inv-loop μ-loop
 part-t-start c = search needs
 
 part-t-end : tie.Need-part-t-end Inv-loop μ-loop
-part-t-end c = omega (arith, padded-long (c .before .before .before .before .args .n) (c .before .loop .k) (c .before .before .before .before .args .words .now) (c .before .loop .t) (c .before .before .before .before .pre .0) (c .before .loop .inv .1))
+part-t-end c =
+    let c4 = c .before .before .before .before in
+    omega (arith, padded-long (c4 .args .n) (c .before .loop .k) (c4 .args .words .now) (c .before .loop .t) (c4 .pre .0) (c .before .loop .inv .1))
 
 add-unite-into : tie.Need-add-unite-into Inv-loop μ-loop
 add-unite-into c = omega (arith, lent-end (c .before .before .before .before .before .args .n) (c .before .loop-test .taken))
@@ -61,7 +63,13 @@ loop-less : tie.Need-loop-less Inv-loop μ-loop
 loop-less c = search needs
 
 loop-again : tie.Need-loop-again Inv-loop μ-loop
-loop-again c = (omega (arith, c .before .before .before .before .loop-test .taken), unions-turn (c .before .before .before .before .before .before .before .before .args .n) (c .before .before .before .before .before .loop .k) (c .before .before .before .before .before .before .before .before .args .words .now) (c .before .before .before .before .before .loop .t) _ _ (c .before .before .before .before .before .loop .inv .1) (lent-part (c .before .before .before .before .before .before .before .before .args .n) (c .before .before .before .before .before .loop .k) (c .before .before .before .before .before .before .before .before .args .words .now)) (c .before .unite-into .ensures))
+loop-again c =
+    let c5 = c .before .before .before .before .before in
+    let c8 = c5 .before .before .before in (
+      omega (arith, c .before .before .before .before .loop-test .taken),
+      unions-turn (c8 .args .n) (c5 .loop .k) (c8 .args .words .now) (c5 .loop .t) _ _
+          (c5 .loop .inv .1) (lent-part (c8 .args .n) (c5 .loop .k) (c8 .args .words .now)) (c .before .unite-into .ensures),
+    )
 
 returns : tie.Need-returns Inv-loop μ-loop
 returns c = let e : c .before .loop .k ≡ c .before .before .before .before .args .m = omega arith in rw e at (c .before .loop .inv .1)

@@ -29,14 +29,18 @@ same-length c = search needs
 
 returns : tie.Need-returns
 unfolding wholeSays wholeLeaves
-returns c = let e = sym (c .before .before .before .before .before .before .whole-verdict .ensures) ∙ ap verdictSays (c .before .before .before .before .enum-told .given .1) in simp e (c .before .before .whole-run .ensures .0, c .before .before .whole-run .ensures .1)
+returns c =
+    let e = sym (c .before .before .before .before .before .before .whole-verdict .ensures) ∙ ap verdictSays (c .before .before .before .before .enum-told .given .1) in
+    simp e (c .before .before .whole-run .ensures .0, c .before .before .whole-run .ensures .1)
 
 same-length-2 : tie.Need-same-length-2
 same-length-2 c = search needs
 
 returns-2 : tie.Need-returns-2
 unfolding wholeSays wholeLeaves
-returns-2 c = let e = sym (c .before .before .before .whole-verdict .ensures) ∙ ap verdictSays (c .before .c .given .1) in (simp (e, number-some (c .before .c .given .0 .0)), simp (e, number-some (c .before .c .given .0 .0)))
+returns-2 c =
+    let e = sym (c .before .before .before .whole-verdict .ensures) ∙ ap verdictSays (c .before .c .given .1) in
+    (simp (e, number-some (c .before .c .given .0 .0)), simp (e, number-some (c .before .c .given .0 .0)))
 
 pub whole-spec : {M : Type 1} → statement M
 whole-spec =

@@ -37,7 +37,10 @@ same-length-2 : tie.Need-same-length-2
 same-length-2 c = search needs
 
 returns-2 : tie.Need-returns-2
-returns-2 c = c .before .before .open-area2 .ensures ∙ ap (λ (x : List ℕ). openedArea (c .before .before .before .before .before .before .before .before .before .before .args .n) (c .before .before .before .before .before .before .before .before .before .before .args .measure) (c .before .before .before .before .before .before .before .before .before .before .args .m) x (c .before .before .before .before .before .before .before .before .before .before .args .area .now)) (unions-lent (c .before .before .before .before .before .before .before .before .before .before .args .n) (c .before .before .before .before .before .before .before .before .before .before .args .m) (c .before .before .before .before .before .before .before .before .before .before .args .words .now) _ (c .before .before .before .before .before .before .union-of .ensures))
+returns-2 c =
+    let c10 = c .before .before .before .before .before .before .before .before .before .before in
+    c .before .before .open-area2 .ensures ∙ ap (λ (x : List ℕ). openedArea (c10 .args .n) (c10 .args .measure) (c10 .args .m) x (c10 .args .area .now)) (unions-lent
+    (c10 .args .n) (c10 .args .m) (c10 .args .words .now) _ (c .before .before .before .before .before .before .union-of .ensures))
 
 pub whole-area-spec : {M : Type 1} → statement M
 whole-area-spec =

@@ -38,7 +38,10 @@ part-step-end : tie.Need-part-step-end Inv-loop μ-loop
 part-step-end c = let w = c .before .before .before .before .before .pre .words in omega (arith, lent-end (c .before .before .before .before .before .args .p .boards) (c .before .loop-test .taken))
 
 step-requires : tie.Need-step-requires Inv-loop μ-loop
-step-requires c κs = rw (lent-part (c .before .before .before .before .before .before .args .p .boards) (c .before .before .before .loop .k) (c .before .before .before .before .before .before .args .words .now)) (along-takes (c .before .before .before .loop .inv .1) (c .before .before .loop-test .taken))
+step-requires c κs =
+    let c3 = c .before .before .before in
+    let c6 = c3 .before .before .before in
+    rw (lent-part (c6 .args .p .boards) (c3 .loop .k) (c6 .args .words .now)) (along-takes (c3 .loop .inv .1) (c .before .before .loop-test .taken))
 
 add-k : tie.Need-add-k Inv-loop μ-loop
 add-k c = search needs
@@ -47,7 +50,13 @@ loop-less : tie.Need-loop-less Inv-loop μ-loop
 loop-less c = search needs
 
 loop-again : tie.Need-loop-again Inv-loop μ-loop
-loop-again c = (search needs, along-turn (c .before .before .before .before .before .before .loop .inv .1) (c .before .before .before .before .before .loop-test .taken) (rw (lent-part (c .before .before .before .before .before .before .before .before .before .args .p .boards) (c .before .before .before .before .before .before .loop .k) (c .before .before .before .before .before .before .before .before .before .args .words .now)) at (c .before .before .step .ensures)))
+loop-again c =
+    let c6 = c .before .before .before .before .before .before in
+    let c9 = c6 .before .before .before in (
+      search needs,
+      along-turn (c6 .loop .inv .1) (c .before .before .before .before .before .loop-test .taken) (rw (lent-part (c9 .args .p .boards) (c6 .loop .k)
+          (c9 .args .words .now)) at (c .before .before .step .ensures)),
+    )
 
 same-length : tie.Need-same-length Inv-loop μ-loop
 same-length c = c .before .loop .inv .1 .size

@@ -44,7 +44,9 @@ part-is-clean-end : tie.Need-part-is-clean-end Inv-loop μ-loop
 part-is-clean-end c = omega (arith, lent-end (c .before .before .before .args .n) (c .loop-test .taken))
 
 is-clean-requires : tie.Need-is-clean-requires Inv-loop μ-loop
-is-clean-requires c κs = (search needs, omega (arith, lent-room (c .before .before .before .before .args .n) (c .before .before .loop .k) (c .before .before .before .before .args .m) (c .before .before .before .before .args .words .now) (c .before .before .before .before .pre .1 .1) (c .before .loop-test .taken)))
+is-clean-requires c κs =
+    let c4 = c .before .before .before .before in
+    (search needs, omega (arith, lent-room (c4 .args .n) (c .before .before .loop .k) (c4 .args .m) (c4 .args .words .now) (c4 .pre .1 .1) (c .before .loop-test .taken)))
 
 returns : tie.Need-returns Inv-loop μ-loop
 unfolding cleanPicks cleanPick
@@ -58,7 +60,11 @@ loop-less c = search needs
 
 loop-again : tie.Need-loop-again Inv-loop μ-loop
 unfolding cleanPick
-loop-again c = (omega (arith, c .before .before .before .loop-test .taken), every-next _ _ (c .before .before .before .before .loop .inv .1) (sym (c .before .is-clean .ensures ∙ simp lent-part) ∙ not-false _ (c .if1 .left)))
+loop-again c = (
+  omega (arith, c .before .before .before .loop-test .taken),
+  every-next _ _ (c .before .before .before .before .loop .inv .1) (sym
+      (c .before .is-clean .ensures ∙ simp lent-part) ∙ not-false _ (c .if1 .left)),
+)
 
 returns-2 : tie.Need-returns-2 Inv-loop μ-loop
 unfolding cleanPicks

@@ -54,7 +54,10 @@ loop-less c = search needs
 
 loop-again : tie.Need-loop-again Inv-loop μ-loop
 unfolding columnRow link bit
-loop-again c = made-turn (c .before .before .before .before .loop .inv) (c .before .before .before .loop-test .taken) (simp (c .keep .ensures, made-read (c .before .before .before .before .loop .inv) (c .before .before .before .loop-test .taken)))
+loop-again c =
+    let c3 = c .before .before .before in
+    let c4 = c3 .before in
+    made-turn (c4 .loop .inv) (c3 .loop-test .taken) (simp (c .keep .ensures, made-read (c4 .loop .inv) (c3 .loop-test .taken)))
 
 same-length : tie.Need-same-length Inv-loop μ-loop
 same-length c = search needs

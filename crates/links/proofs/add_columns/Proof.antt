@@ -36,7 +36,9 @@ loop-less : tie.Need-loop-less Inv-loop μ-loop
 loop-less c = search needs
 
 loop-again : tie.Need-loop-again Inv-loop μ-loop
-loop-again c = (search needs, (c .before .before .add-column .kept .0 ∙ c .before .before .before .before .before .before .loop .inv .1 .0, simp (c .before .before .add-column .ensures, c .before .before .before .before .before .before .loop .inv .1 .1, through-next)))
+loop-again c =
+    let c6 = c .before .before .before .before .before .before in
+    (search needs, (c .before .before .add-column .kept .0 ∙ c6 .loop .inv .1 .0, simp (c .before .before .add-column .ensures, c6 .loop .inv .1 .1, through-next)))
 
 same-length : tie.Need-same-length Inv-loop μ-loop
 same-length c = search needs

@@ -21,7 +21,10 @@ same-length c = search needs
 
 returns : tie.Need-returns
 unfolding closed
-returns c = c .before .before .clear-own .ensures ∙ ap (λ (x : List ℕ). tab (clearRow x) (c .before .before .before .before .before .before .before .before .before .args .n)) (c .before .before .before .before .before .before .pass-over-all .ensures) ∙ closed-within _ _ (c .before .before .before .before .before .before .before .before .before .pre .0)
+returns c =
+    let c9 = c .before .before .before .before .before .before .before .before .before in
+    c .before .before .clear-own .ensures ∙ ap (λ (x : List ℕ). tab (clearRow x) (c9 .args .n))
+    (c .before .before .before .before .before .before .pass-over-all .ensures) ∙ closed-within _ _ (c9 .pre .0)
 
 pub close-spec : {M : Type 1} → statement M
 close-spec = tie.close (tie.spec pass-over-all-requires clear-own-requires same-length returns)

@@ -18,7 +18,9 @@ same-length : tie.Need-same-length
 same-length c = search needs
 
 returns : tie.Need-returns
-returns c = c .before .before .close .ensures ∙ ap (within (c .before .before .before .before .before .before .before .before .before .before .args .n) 31) (c .before .before .before .before .before .before .copy-over .ensures)
+returns c =
+    c .before .before .close .ensures ∙ ap (within (c .before .before .before .before .before .before .before .before .before .before .args .n) 31)
+    (c .before .before .before .before .before .before .copy-over .ensures)
 
 pub close-over-spec : {M : Type 1} → statement M
 close-over-spec = tie.close (tie.spec copy-over-requires close-requires same-length returns)

@@ -30,7 +30,9 @@ loop-less : tie.Need-loop-less Inv-loop μ-loop
 loop-less c = search needs
 
 loop-again : tie.Need-loop-again Inv-loop μ-loop
-loop-again c = (search needs, (c .before .before .pass-over .kept .0 ∙ c .before .before .before .before .before .loop .inv .1 .0, simp (c .before .before .pass-over .ensures, c .before .before .before .before .before .loop .inv .1 .1, passes-next)))
+loop-again c =
+    let c5 = c .before .before .before .before .before in
+    (search needs, (c .before .before .pass-over .kept .0 ∙ c5 .loop .inv .1 .0, simp (c .before .before .pass-over .ensures, c5 .loop .inv .1 .1, passes-next)))
 
 same-length : tie.Need-same-length Inv-loop μ-loop
 same-length c = search needs

@@ -36,7 +36,13 @@ same-length-3 c = search needs
 
 returns-3 : tie.Need-returns-3
 unfolding joinOf
-returns-3 c = simp (ne-eqb _ _ (c .before .before .before .before .before .before .if1 .left), ne-eqb _ _ (c .before .before .before .before .before .if2 .left), eq-eqb _ _ (c .before .before .before .before .if3 .taken)) (c .before .before .unite .ensures)
+returns-3 c =
+    simp (
+      ne-eqb _ _ (c .before .before .before .before .before .before .if1 .left),
+      ne-eqb _ _ (c .before .before .before .before .before .if2 .left),
+      eq-eqb _ _
+          (c .before .before .before .before .if3 .taken),
+    ) (c .before .before .unite .ensures)
 
 intersect-requires : tie.Need-intersect-requires
 intersect-requires c κs = let w = width-links _ (c .before .before .before .before .before .before .before .args .n) (c .before .before .before .if1 .left) in (omega arith, (omega arith, omega arith))
@@ -46,7 +52,13 @@ same-length-4 c = search needs
 
 returns-4 : tie.Need-returns-4
 unfolding joinOf
-returns-4 c = simp (ne-eqb _ _ (c .before .before .before .before .before .before .if1 .left), ne-eqb _ _ (c .before .before .before .before .before .if2 .left), ne-eqb _ _ (c .before .before .before .before .if3 .left)) (c .before .before .intersect .ensures)
+returns-4 c =
+    simp (
+      ne-eqb _ _ (c .before .before .before .before .before .before .if1 .left),
+      ne-eqb _ _ (c .before .before .before .before .before .if2 .left),
+      ne-eqb _ _
+          (c .before .before .before .before .if3 .left),
+    ) (c .before .before .intersect .ensures)
 
 pub compose-spec : {M : Type 1} → statement M
 compose-spec =

@@ -42,7 +42,11 @@ same-length : tie.Need-same-length
 same-length c = search needs
 
 returns : tie.Need-returns
-returns c = c .before .before .join .ensures ∙ ap₂ (compose (c .before .before .before .before .before .before .before .before .before .before .before .before .before .args .n)) (load-words _ _ _ (c .before .before .before .before .before .before .before .before .before .before .before .before .before .pre .1 .0) (c .before .before .before .before .before .before .before .before .before .load .ensures)) (within-padded _ _ _ (c .before .before .before .before .before .before .before .before .closed-words .ensures))
+returns c =
+    let c13 = c .before .before .before .before .before .before .before .before .before .before .before .before .before in
+    c .before .before .join .ensures ∙ ap₂ (compose (c13 .args .n)) (load-words _ _ _ (c13 .pre .1 .0)
+    (c .before .before .before .before .before .before .before .before .before .load .ensures)) (within-padded _ _ _
+    (c .before .before .before .before .before .before .before .before .closed-words .ensures))
 
 pub add-pick-spec : {M : Type 1} → statement M
 add-pick-spec =

@@ -30,7 +30,11 @@ part-write-table-end : tie.Need-part-write-table-end
 part-write-table-end c = let t = table-sound _ _ _ (sym (c .before .before .table-verdict .ensures) ∙ ap verdictSays (c .enum-told .given .1)) in let b = t .room in omega arith
 
 write-table-requires : tie.Need-write-table-requires
-write-table-requires c κs = let t = table-sound _ _ _ (sym (c .before .before .before .table-verdict .ensures) ∙ ap verdictSays (c .before .enum-told .given .1)) in let w = t .words in (t .few, (front-long (c .before .before .before .before .before .before .before .args .n) (c .before .before .before .before .before .before .before .args .out .now) (t .room), (t .some-picks, (t .cap, omega arith))))
+write-table-requires c κs =
+    let c7 = c .before .before .before .before .before .before .before in
+    let t = table-sound _ _ _ (sym (c .before .before .before .table-verdict .ensures) ∙ ap verdictSays (c .before .enum-told .given .1)) in
+    let w = t .words in
+    (t .few, (front-long (c7 .args .n) (c7 .args .out .now) (t .room), (t .some-picks, (t .cap, omega arith))))
 
 enum-known-c : tie.Need-enum-known-c
 enum-known-c c = search needs
@@ -40,7 +44,9 @@ same-length c = search needs
 
 returns : tie.Need-returns
 unfolding tableLeaves tableOf
-returns c = let e = sym (c .before .before .before .before .before .before .table-verdict .ensures) ∙ ap verdictSays (c .before .before .before .before .enum-told .given .1) in (sym e, simp (e, c .before .before .write-table .ensures, sub-zero))
+returns c =
+    let e = sym (c .before .before .before .before .before .before .table-verdict .ensures) ∙ ap verdictSays (c .before .before .before .before .enum-told .given .1) in
+    (sym e, simp (e, c .before .before .write-table .ensures, sub-zero))
 
 same-length-2 : tie.Need-same-length-2
 same-length-2 c = search needs

@@ -34,22 +34,39 @@ returns-3 c = stop-step _ (passed-by (c .before .before .before .is-between .ens
 
 returns-4 : tie.Need-returns-4
 unfolding tableVerdict
-returns-4 c = stop-step _ (passed-by (c .before .before .before .before .is-between .ensures) (c .before .before .before .if1 .left)) (stop-step _ (simp (eq-eqb _ _ (c .before .before .if2 .left))) (stop-step _ (ne-eqb _ _ (c .before .if3 .left)) (stop-here _ (lt-ltb _ _ (c .if4 .taken)))))
+returns-4 c =
+    stop-step _ (passed-by (c .before .before .before .before .is-between .ensures) (c .before .before .before .if1 .left)) (stop-step _ (simp (eq-eqb _ _
+    (c .before .before .if2 .left))) (stop-step _ (ne-eqb _ _ (c .before .if3 .left)) (stop-here _ (lt-ltb _ _ (c .if4 .taken)))))
 
 returns-5 : tie.Need-returns-5
 unfolding tableVerdict
-returns-5 c = stop-step _ (passed-by (c .before .before .before .before .before .is-between .ensures) (c .before .before .before .before .if1 .left)) (stop-step _ (simp (eq-eqb _ _ (c .before .before .before .if2 .left))) (stop-step _ (ne-eqb _ _ (c .before .before .if3 .left)) (stop-step _ (le-ltb _ _ (c .before .if4 .left)) (stop-here _ (lt-ltb _ _ (c .if5 .taken))))))
+returns-5 c =
+    stop-step _ (passed-by (c .before .before .before .before .before .is-between .ensures) (c .before .before .before .before .if1 .left)) (stop-step _ (simp (eq-eqb _ _
+    (c .before .before .before .if2 .left))) (stop-step _ (ne-eqb _ _ (c .before .before .if3 .left)) (stop-step _ (le-ltb _ _ (c .before .if4 .left)) (stop-here _
+    (lt-ltb _ _ (c .if5 .taken))))))
 
 are-clean-requires : tie.Need-are-clean-requires
-are-clean-requires c κs = (between-says _ _ _ (holds-by (c .before .before .before .before .before .is-between .ensures) (c .before .before .before .before .if1 .left)) .1, (c .before .if4 .left, omega (arith, div-add-mod' (length (c .before .before .before .before .before .before .before .before .args .words .now)) (c .before .before .before .before .before .before .before .before .args .n))))
+are-clean-requires c κs =
+    let c8 = c .before .before .before .before .before .before .before .before in (
+      between-says _ _ _ (holds-by (c .before .before .before .before .before .is-between .ensures) (c .before .before .before .before .if1 .left)) .1,
+      (c .before .if4 .left, omega (arith, div-add-mod' (length (c8 .args .words .now)) (c8 .args .n))),
+    )
 
 returns-6 : tie.Need-returns-6
 unfolding tableVerdict
-returns-6 c = stop-step _ (passed-by (c .before .before .before .before .before .before .before .is-between .ensures) (c .before .before .before .before .before .before .if1 .left)) (stop-step _ (simp (eq-eqb _ _ (c .before .before .before .before .before .if2 .left))) (stop-step _ (ne-eqb _ _ (c .before .before .before .before .if3 .left)) (stop-step _ (le-ltb _ _ (c .before .before .before .if4 .left)) (stop-step _ (le-ltb _ _ (c .before .before .if5 .left)) (stop-here _ (failed-by (c .before .are-clean .ensures) (c .if6 .taken)))))))
+returns-6 c =
+    stop-step _ (passed-by (c .before .before .before .before .before .before .before .is-between .ensures)
+    (c .before .before .before .before .before .before .if1 .left)) (stop-step _ (simp (eq-eqb _ _ (c .before .before .before .before .before .if2 .left))) (stop-step _
+    (ne-eqb _ _ (c .before .before .before .before .if3 .left)) (stop-step _ (le-ltb _ _ (c .before .before .before .if4 .left)) (stop-step _ (le-ltb _ _
+    (c .before .before .if5 .left)) (stop-here _ (failed-by (c .before .are-clean .ensures) (c .if6 .taken)))))))
 
 returns-7 : tie.Need-returns-7
 unfolding tableVerdict
-returns-7 c = stop-step _ (passed-by (c .before .before .before .before .before .before .before .is-between .ensures) (c .before .before .before .before .before .before .if1 .left)) (stop-step _ (simp (eq-eqb _ _ (c .before .before .before .before .before .if2 .left))) (stop-step _ (ne-eqb _ _ (c .before .before .before .before .if3 .left)) (stop-step _ (le-ltb _ _ (c .before .before .before .if4 .left)) (stop-step _ (le-ltb _ _ (c .before .before .if5 .left)) (stop-step _ (passed-by (c .before .are-clean .ensures) (c .if6 .left)) refl)))))
+returns-7 c =
+    stop-step _ (passed-by (c .before .before .before .before .before .before .before .is-between .ensures)
+    (c .before .before .before .before .before .before .if1 .left)) (stop-step _ (simp (eq-eqb _ _ (c .before .before .before .before .before .if2 .left))) (stop-step _
+    (ne-eqb _ _ (c .before .before .before .before .if3 .left)) (stop-step _ (le-ltb _ _ (c .before .before .before .if4 .left)) (stop-step _ (le-ltb _ _
+    (c .before .before .if5 .left)) (stop-step _ (passed-by (c .before .are-clean .ensures) (c .if6 .left)) refl)))))
 
 pub table-verdict-spec : {M : Type 1} → statement M
 table-verdict-spec =

@@ -33,7 +33,18 @@ close-over-requires : tie.Need-close-over-requires Inv-loop μ-loop
 close-over-requires c κs = search needs
 
 loop-holds : tie.Need-loop-holds Inv-loop μ-loop
-loop-holds c = (le-refl 1, (c .before .before .before .before .before .before .before .pre .1 .1 .0, (c .before .before .close-over .kept .0 ∙ sym (c .before .before .before .before .before .before .before .pre .1 .0), c .before .before .close-over .ensures ∙ ap (within (c .before .before .before .before .before .before .before .args .n) 31) (first-lent (c .before .before .before .before .before .before .before .args .n) (c .before .before .before .before .before .before .before .args .words .now)) ∙ sym (reach-first (c .before .before .before .before .before .before .before .args .n) 31 (c .before .before .before .before .before .before .before .args .words .now)))))
+loop-holds c =
+    let c7 = c .before .before .before .before .before .before .before in (
+      le-refl 1,
+      (
+        c7 .pre .1 .1 .0,
+        (
+          c .before .before .close-over .kept .0 ∙ sym (c7 .pre .1 .0),
+          c .before .before .close-over .ensures ∙ ap (within (c7 .args .n) 31)
+              (first-lent (c7 .args .n) (c7 .args .words .now)) ∙ sym (reach-first (c7 .args .n) 31 (c7 .args .words .now)),
+        ),
+      ),
+    )
 
 mul-at : tie.Need-mul-at Inv-loop μ-loop
 mul-at c = omega (arith, lent-end (c .before .before .before .before .before .before .before .before .before .args .n) (c .loop-test .taken))
@@ -63,7 +74,20 @@ loop-less : tie.Need-loop-less Inv-loop μ-loop
 loop-less c = search needs
 
 loop-again : tie.Need-loop-again Inv-loop μ-loop
-loop-again c = (omega arith, (omega (arith, c .before .before .before .before .before .loop-test .taken), (c .before .before .add-pick .kept .0 ∙ c .before .before .before .before .before .before .loop .inv .1 .1 .0, reach-turn (c .before .before .before .before .before .before .before .before .before .before .before .before .before .before .args .n) (c .before .before .before .before .before .before .loop .k) (c .before .before .before .before .before .before .before .before .before .before .before .before .before .before .args .words .now) (c .before .before .before .before .before .before .loop .out) (c .before .before .add-pick .last .0) _ (c .before .before .before .before .before .before .loop .inv .0) (c .before .before .before .before .before .before .loop .inv .1 .1 .1) (lent-part (c .before .before .before .before .before .before .before .before .before .before .before .before .before .before .args .n) (c .before .before .before .before .before .before .loop .k) (c .before .before .before .before .before .before .before .before .before .before .before .before .before .before .args .words .now)) (c .before .before .add-pick .ensures))))
+loop-again c =
+    let c6 = c .before .before .before .before .before .before in
+    let c14 = c6 .before .before .before .before .before .before .before .before in (
+      omega arith,
+      (
+        omega (arith, c .before .before .before .before .before .loop-test .taken),
+        (
+          c .before .before .add-pick .kept .0 ∙ c6 .loop .inv .1 .1 .0,
+          reach-turn
+              (c14 .args .n) (c6 .loop .k) (c14 .args .words .now) (c6 .loop .out) (c .before .before .add-pick .last .0) _ (c6 .loop .inv .0) (c6 .loop .inv .1 .1 .1) (lent-part
+              (c14 .args .n) (c6 .loop .k) (c14 .args .words .now)) (c .before .before .add-pick .ensures),
+        ),
+      ),
+    )
 
 same-length : tie.Need-same-length Inv-loop μ-loop
 same-length c = search needs

@@ -42,7 +42,9 @@ part-links-end : tie.Need-part-links-end
 part-links-end c = let k = headed _ _ _ _ _ (sym (c .before .before .before .before .head-at .ensures) ∙ c .before .before .head .given .1) in omega (arith, k .high, ap length (c .no-words .ensures) ∙ length-zeros 32)
 
 scan-requires : tie.Need-scan-requires
-scan-requires c κs = let k = headed _ _ _ _ _ (sym (c .before .before .before .before .before .head-at .ensures) ∙ c .before .before .before .head .given .1) in (lent-length _ _ (c .before .no-words .ensures) (k .high), k .high)
+scan-requires c κs =
+    let k = headed _ _ _ _ _ (sym (c .before .before .before .before .before .head-at .ensures) ∙ c .before .before .before .head .given .1) in
+    (lent-length _ _ (c .before .no-words .ensures) (k .high), k .high)
 
 returns-2 : tie.Need-returns-2
 unfolding recordingAt

@@ -31,22 +31,61 @@ returns-3 c = simp (ne-eqb _ _ (c .before .before .before .if1 .left), le-ltb _ 
 
 returns-4 : tie.Need-returns-4
 unfolding headAt refuse
-returns-4 c = simp (ne-eqb _ _ (c .before .before .before .before .before .before .if1 .left), le-ltb _ _ (c .before .before .before .before .before .if2 .left), sym (c .before .before .before .before .command-at .ensures) ∙ c .before .before .command .given .1, lt-ltb _ _ (c .if3 .taken))
+returns-4 c =
+    simp (
+      ne-eqb _ _ (c .before .before .before .before .before .before .if1 .left),
+      le-ltb _ _ (c .before .before .before .before .before .if2 .left),
+      sym
+          (c .before .before .before .before .command-at .ensures) ∙ c .before .before .command .given .1,
+      lt-ltb _ _ (c .if3 .taken),
+    )
 
 returns-5 : tie.Need-returns-5
 unfolding headAt refuse
-returns-5 c = simp (ne-eqb _ _ (c .before .before .before .before .before .before .before .if1 .left), le-ltb _ _ (c .before .before .before .before .before .before .if2 .left), sym (c .before .before .before .before .before .command-at .ensures) ∙ c .before .before .before .command .given .1, le-ltb _ _ (c .before .if3 .left), lt-ltb _ _ (c .if4 .taken))
+returns-5 c =
+    simp (
+      ne-eqb _ _ (c .before .before .before .before .before .before .before .if1 .left),
+      le-ltb _ _
+          (c .before .before .before .before .before .before .if2 .left),
+      sym
+          (c .before .before .before .before .before .command-at .ensures) ∙ c .before .before .before .command .given .1,
+      le-ltb _ _ (c .before .if3 .left),
+      lt-ltb _ _
+          (c .if4 .taken),
+    )
 
 mul-if5 : tie.Need-mul-if5
 mul-if5 c = omega (arith, mul-le-mul (c .before .before .before .before .before .before .if2 .left) (c .if4 .left))
 
 returns-6 : tie.Need-returns-6
 unfolding headAt refuse
-returns-6 c = simp (ne-eqb _ _ (c .before .before .before .before .before .before .before .before .if1 .left), le-ltb _ _ (c .before .before .before .before .before .before .before .if2 .left), sym (c .before .before .before .before .before .before .command-at .ensures) ∙ c .before .before .before .before .command .given .1, le-ltb _ _ (c .before .before .if3 .left), le-ltb _ _ (c .before .if4 .left), lt-ltb _ _ (c .if5 .taken))
+returns-6 c =
+    simp (
+      ne-eqb _ _ (c .before .before .before .before .before .before .before .before .if1 .left),
+      le-ltb _ _
+          (c .before .before .before .before .before .before .before .if2 .left),
+      sym
+          (c .before .before .before .before .before .before .command-at .ensures) ∙ c .before .before .before .before .command .given .1,
+      le-ltb _ _
+          (c .before .before .if3 .left),
+      le-ltb _ _ (c .before .if4 .left),
+      lt-ltb _ _ (c .if5 .taken),
+    )
 
 returns-7 : tie.Need-returns-7
 unfolding headAt refuse
-returns-7 c = simp (ne-eqb _ _ (c .before .before .before .before .before .before .before .before .if1 .left), le-ltb _ _ (c .before .before .before .before .before .before .before .if2 .left), sym (c .before .before .before .before .before .before .command-at .ensures) ∙ c .before .before .before .before .command .given .1, le-ltb _ _ (c .before .before .if3 .left), le-ltb _ _ (c .before .if4 .left), le-ltb _ _ (c .if5 .left))
+returns-7 c =
+    simp (
+      ne-eqb _ _ (c .before .before .before .before .before .before .before .before .if1 .left),
+      le-ltb _ _
+          (c .before .before .before .before .before .before .before .if2 .left),
+      sym
+          (c .before .before .before .before .before .before .command-at .ensures) ∙ c .before .before .before .before .command .given .1,
+      le-ltb _ _
+          (c .before .before .if3 .left),
+      le-ltb _ _ (c .before .if4 .left),
+      le-ltb _ _ (c .if5 .left),
+    )
 
 pub head-at-spec : {M : Type 1} → statement M
 head-at-spec =

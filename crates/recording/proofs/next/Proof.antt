@@ -24,11 +24,19 @@ unfolding nextOf refuse
 returns c = simp (sym (c .before .before .before .before .before .command-at .ensures) ∙ c .before .before .before .command .given .1, sym (c .before .no-link .ensures) ∙ c .if1 .taken)
 
 is-unchanged-requires : tie.Need-is-unchanged-requires
-is-unchanged-requires c κs = in-links _ _ _ _ (sym (c .before .no-link .ensures) ∙ c .if1 .left) (c .before .before .before .before .before .before .before .before .pre .0) (c .before .before .before .before .before .before .before .before .pre .1)
+is-unchanged-requires c κs =
+    let c8 = c .before .before .before .before .before .before .before .before in
+    in-links _ _ _ _ (sym (c .before .no-link .ensures) ∙ c .if1 .left) (c8 .pre .0) (c8 .pre .1)
 
 returns-2 : tie.Need-returns-2
 unfolding nextOf refuse
-returns-2 c = simp (sym (c .before .before .before .before .before .before .before .command-at .ensures) ∙ c .before .before .before .before .before .command .given .1, sym (c .before .before .before .no-link .ensures) ∙ c .before .before .if1 .left, sym (c .before .is-unchanged .ensures) ∙ c .if2 .taken)
+returns-2 c =
+    simp (
+      sym (c .before .before .before .before .before .before .before .command-at .ensures) ∙ c .before .before .before .before .before .command .given .1,
+      sym
+          (c .before .before .before .no-link .ensures) ∙ c .before .before .if1 .left,
+      sym (c .before .is-unchanged .ensures) ∙ c .if2 .taken,
+    )
 
 enum-told : tie.Need-enum-told
 enum-told c = search needs
@@ -39,7 +47,13 @@ returns-3 c = simp (sym (c .before .before .before .command-at .ensures) ∙ c .
 
 returns-4 : tie.Need-returns-4
 unfolding nextOf refuse
-returns-4 c = simp (sym (c .before .before .before .before .before .before .before .command-at .ensures) ∙ c .before .before .before .before .before .command .given .1, sym (c .before .before .before .no-link .ensures) ∙ c .before .before .if1 .left, sym (c .before .is-unchanged .ensures) ∙ c .if2 .left)
+returns-4 c =
+    simp (
+      sym (c .before .before .before .before .before .before .before .command-at .ensures) ∙ c .before .before .before .before .before .command .given .1,
+      sym
+          (c .before .before .before .no-link .ensures) ∙ c .before .before .if1 .left,
+      sym (c .before .is-unchanged .ensures) ∙ c .if2 .left,
+    )
 
 returns-5 : tie.Need-returns-5
 unfolding nextOf refuse

@@ -10,13 +10,18 @@ raise-requires : tie.Need-raise-requires
 raise-requires c κs = search needs
 
 try-window-requires : tie.Need-try-window-requires
-try-window-requires c κs = let h = c .before .before .before .before .before .before .pre in raise-tries _ _ (h .0) (h .1 .0) (h .1 .1 .0) (h .1 .1 .1) (c .before .before .before .raise .ensures) (c .before .before .before .raise .kept .1 .0)
+try-window-requires c κs =
+    let c3 = c .before .before .before in
+    let h = c .before .before .before .before .before .before .pre in
+    raise-tries _ _ (h .0) (h .1 .0) (h .1 .1 .0) (h .1 .1 .1) (c3 .raise .ensures) (c3 .raise .kept .1 .0)
 
 same-length : tie.Need-same-length
 same-length c = search needs
 
 returns : tie.Need-returns
-returns c = again-closes _ _ (c .before .before .before .before .before .before .before .before .before .pre .0 .top) (c .before .before .before .before .before .before .raise .ensures) (c .before .before .try-window .ensures)
+returns c =
+    again-closes _ _ (c .before .before .before .before .before .before .before .before .before .pre .0 .top)
+    (c .before .before .before .before .before .before .raise .ensures) (c .before .before .try-window .ensures)
 
 pub again-spec : {M : Type 1} → statement M
 again-spec = tie.close (tie.spec raise-requires try-window-requires same-length returns)

@@ -26,7 +26,13 @@ add-compose-at : tie.Need-add-compose-at Inv-loop μ-loop
 add-compose-at c = omega (arith, c .before .before .before .before .pre .0 .cap)
 
 compose-at-requires : tie.Need-compose-at-requires Inv-loop μ-loop
-compose-at-requires c κs = (able-long (c .before .before .loop .inv .1 .1 .0) (c .before .before .before .before .pre .0), (record { low = omega arith; high = omega arith }, (record { low = omega arith; high = omega arith }, record { low = omega arith; high = omega arith })))
+compose-at-requires c κs = (
+  able-long (c .before .before .loop .inv .1 .1 .0) (c .before .before .before .before .pre .0),
+  (
+    record { low = omega arith; high = omega arith },
+    (record { low = omega arith; high = omega arith }, record { low = omega arith; high = omega arith }),
+  ),
+)
 
 loop-less : tie.Need-loop-less Inv-loop μ-loop
 loop-less c = search needs

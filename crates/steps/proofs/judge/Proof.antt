@@ -17,7 +17,15 @@ add-passes-part-2 : tie.Need-add-passes-part-2
 add-passes-part-2 c = search needs
 
 passes-part-requires : tie.Need-passes-part-requires
-passes-part-requires c κs = let h = c .before .pre .able in (h .few, (able-has h (in-part (c .before .args .p .limit + 3) (omega arith) (omega arith)), able-has h (in-part (c .before .args .p .limit + 2) (omega arith) (omega arith))))
+passes-part-requires c κs =
+    let h = c .before .pre .able in (
+      h .few,
+      (
+        able-has h (in-part (c .before .args .p .limit + 3) (omega arith) (omega arith)),
+        able-has h (in-part (c .before .args .p .limit + 2) (omega arith)
+            (omega arith)),
+      ),
+    )
 
 tested-requires : tie.Need-tested-requires
 tested-requires c κs = search needs

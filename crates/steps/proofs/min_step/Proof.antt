@@ -12,10 +12,18 @@ one-if-requires : tie.Need-one-if-requires
 one-if-requires c κs = search needs
 
 enter-requires : tie.Need-enter-requires
-enter-requires c κs = (entry-by (c .before .one-if .ensures) (c .before .before .before .before .pre .0), (one-le (c .before .before .before .before .args .p .passed) (c .before .one-if .ensures), c .before .before .before .before .pre .1))
+enter-requires c κs =
+    let c4 = c .before .before .before .before in
+    (entry-by (c .before .one-if .ensures) (c4 .pre .0), (one-le (c4 .args .p .passed) (c .before .one-if .ensures), c4 .pre .1))
 
 try-window-requires : tie.Need-try-window-requires
-try-window-requires c κs = let r = enter-tries (c .before .before .before .before .before .before .before .before .args .p) (c .before .before .before .before .before .before .before .before .args .area .now) (c .before .before .before .before .before .one-if .result) (c .before .before .before .before .before .before .before .before .args .words .now) (entry-by (c .before .before .before .before .before .one-if .ensures) (c .before .before .before .before .before .before .before .before .pre .0)) (c .before .before .before .enter .ensures) (c .before .before .before .enter .kept .1 .0) in (r .0, (omega (arith, r .1 .0), omega (arith, r .1 .1)))
+try-window-requires c κs =
+    let c3 = c .before .before .before in
+    let c5 = c3 .before .before in
+    let c8 = c5 .before .before .before in
+    let r = enter-tries (c8 .args .p) (c8 .args .area .now) (c5 .one-if .result) (c8 .args .words .now) (entry-by (c5 .one-if .ensures) (c8 .pre .0)) (c3 .enter .ensures)
+    (c3 .enter .kept .1 .0) in
+    (r .0, (omega (arith, r .1 .0), omega (arith, r .1 .1)))
 
 clear-spare-requires : tie.Need-clear-spare-requires
 clear-spare-requires c κs = search needs
@@ -24,7 +32,11 @@ same-length : tie.Need-same-length
 same-length c = search needs
 
 returns : tie.Need-returns
-returns c = min-closes _ _ _ (c .before .before .before .before .before .before .before .before .before .before .before .before .before .before .before .pre .0 .top) (c .before .before .before .before .before .before .before .before .before .before .before .before .one-if .ensures) (c .before .before .before .before .before .before .before .before .before .before .enter .ensures) (c .before .before .before .before .before .before .try-window .ensures) (c .before .before .clear-spare .ensures)
+returns c =
+    min-closes _ _ _ (c .before .before .before .before .before .before .before .before .before .before .before .before .before .before .before .pre .0 .top)
+    (c .before .before .before .before .before .before .before .before .before .before .before .before .one-if .ensures)
+    (c .before .before .before .before .before .before .before .before .before .before .enter .ensures)
+    (c .before .before .before .before .before .before .try-window .ensures) (c .before .before .clear-spare .ensures)
 
 pub min-step-spec : {M : Type 1} → statement M
 min-step-spec =

@@ -19,7 +19,9 @@ add-if1-2 : tie.Need-add-if1-2
 add-if1-2 c = search needs
 
 rebuild-requires : tie.Need-rebuild-requires
-rebuild-requires c κs = fit-at (c .before .before .before .before .start-moved .ensures) refl (moved-fit _ (c .before .before .before .before .before .before .before .before .pre .0) (c .before .before .before .before .before .before .before .before .pre .1))
+rebuild-requires c κs =
+    let c8 = c .before .before .before .before .before .before .before .before in
+    fit-at (c .before .before .before .before .start-moved .ensures) refl (moved-fit _ (c8 .pre .0) (c8 .pre .1))
 
 same-length : tie.Need-same-length
 same-length c = search needs

@@ -25,14 +25,20 @@ sub-charged c = search needs
 
 charged-requires : tie.Need-charged-requires
 unfolding turned
-charged-requires c κs = (rw (c .before .before .turned .ensures) (c .before .before .before .before .before .before .before .before .before .before .before .before .before .before .pre .comps), omega (arith, c .before .before .before .before .before .before .before .before .before .before .before .before .before .before .pre .able .cap))
+charged-requires c κs =
+    let c14 = c .before .before .before .before .before .before .before .before .before .before .before .before .before .before in
+    (rw (c .before .before .turned .ensures) (c14 .pre .comps), omega (arith, c14 .pre .able .cap))
 
 same-length : tie.Need-same-length
 same-length c = search needs
 
 returns : tie.Need-returns
 unfolding rebuilt
-returns c = (simp (c .charged .ensures, c .before .before .before .turned .ensures), c .before .before .before .before .before .before .zero-at .ensures ∙ simp (c .before .before .before .before .before .before .before .before .before .before .build-left .ensures))
+returns c = (
+  simp (c .charged .ensures, c .before .before .before .turned .ensures),
+  c .before .before .before .before .before .before .zero-at .ensures ∙ simp
+      (c .before .before .before .before .before .before .before .before .before .before .build-left .ensures),
+)
 
 pub rebuild-spec : {M : Type 1} → statement M
 rebuild-spec =

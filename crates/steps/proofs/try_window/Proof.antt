@@ -13,7 +13,11 @@ window-requires : tie.Need-window-requires
 window-requires c κs = search needs
 
 judge-requires : tie.Need-judge-requires
-judge-requires c κs = let h = c .before .before .before .before .before .before .pre in let i = h .0 .inside in fit-at (c .before .before .before .window .ensures .0) (c .before .before .before .window .kept .1 .0) (fit-grown (windowed-grown _ _) (omega arith) (omega arith) (omega arith) (h .0))
+judge-requires c κs =
+    let c3 = c .before .before .before in
+    let h = c .before .before .before .before .before .before .pre in
+    let i = h .0 .inside in
+    fit-at (c3 .window .ensures .0) (c3 .window .kept .1 .0) (fit-grown (windowed-grown _ _) (omega arith) (omega arith) (omega arith) (h .0))
 
 same-length : tie.Need-same-length
 same-length c = search needs

@@ -53,7 +53,9 @@ same-length-3 c = search needs
 
 returns-3 : tie.Need-returns-3
 unfolding windowed windowArea
-returns-3 c = simp (le-leb _ _ (c .before .before .before .before .before .before .before .before .if1 .left), lt-ltb _ _ (c .before .before .before .before .before .if2 .left)) (c .charged .ensures, c .before .before .before .compose-at .ensures)
+returns-3 c =
+    simp (le-leb _ _ (c .before .before .before .before .before .before .before .before .if1 .left), lt-ltb _ _ (c .before .before .before .before .before .if2 .left))
+    (c .charged .ensures, c .before .before .before .compose-at .ensures)
 
 pub window-spec : {M : Type 1} → statement M
 window-spec =

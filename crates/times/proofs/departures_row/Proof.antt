@@ -132,11 +132,16 @@ slice-write-out : tie.Need-slice-write-out Inv-loop μ-loop
 slice-write-out c = search needs
 
 same-length : tie.Need-same-length Inv-loop μ-loop
-same-length c = omega (arith, length-set (c .before .loop .out) (c .before .before .before .before .before .before .before .before .before .before .before .args .own .0) 0, c .before .loop .inv .1 .0, c .before .before .before .before .before .before .before .before .before .before .before .pre .1 .1 .0)
+same-length c =
+    let c11 = c .before .before .before .before .before .before .before .before .before .before .before in
+    omega (arith, length-set (c .before .loop .out) (c11 .args .own .0) 0, c .before .loop .inv .1 .0, c11 .pre .1 .1 .0)
 
 returns : tie.Need-returns Inv-loop μ-loop
 unfolding departure
-returns c = let e : c .before .loop .w ≡ c .before .before .before .before .before .before .before .before .before .before .before .args .n = omega arith in row-last _ _ _ _ _ (rw e at (c .before .loop .inv .1 .1)) (c .before .before .before .before .before .before .before .before .before .before .before .pre .1 .0) (λ v. refl)
+returns c =
+    let c11 = c .before .before .before .before .before .before .before .before .before .before .before in
+    let e : c .before .loop .w ≡ c11 .args .n = omega arith in
+    row-last _ _ _ _ _ (rw e at (c .before .loop .inv .1 .1)) (c11 .pre .1 .0) (λ v. refl)
 
 pub departures-row-spec : {M : Type 1} → statement M
 departures-row-spec =

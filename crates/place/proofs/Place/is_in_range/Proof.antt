@@ -27,7 +27,9 @@ is-between-requires-3 c κs = search needs
 
 returns-3 : tie.Need-returns-3
 unfolding inRange
-returns-3 c = and-step (sym (c .before .before .before .before .is-between .ensures) ∙ not-false _ (c .before .before .before .if1 .left)) (and-step (sym (c .before .before .is-between2 .ensures) ∙ not-false _ (c .before .if2 .left)) (c .is-between3 .ensures))
+returns-3 c =
+    and-step (sym (c .before .before .before .before .is-between .ensures) ∙ not-false _ (c .before .before .before .if1 .left)) (and-step (sym
+    (c .before .before .is-between2 .ensures) ∙ not-false _ (c .before .if2 .left)) (c .is-between3 .ensures))
 
 pub is-in-range-spec : {M : Type 1} → statement M
 is-in-range-spec =
