@@ -45,10 +45,24 @@ abbrev pub F : List ℕ
 F = 0 ∷ 0 ∷ []
 
 -- THE TABLE of document 01: refusal, length, compositions, tests
-pub cases : run 2 1 A ∷ run 2 2 A ∷ run 2 3 A ∷ run 2 4 A ∷ run 2 1 B ∷ run 2 3 B ∷ run 3 1 C ∷ run 2 1 D ∷ run 2 3 D ∷ run 2 2 F ∷ []
-    ≡ outcome 9 0 0 1 ∷ outcome 0 2 6 4 ∷ outcome 0 2 3 4 ∷ outcome 0 3 4 4 ∷ outcome 0 3 2 3 ∷ outcome 0 1 0 3 ∷ outcome 0 1 3 5 ∷ outcome 9 0 1 3 ∷ outcome 0 2 0 2 ∷ outcome 0 1 0 1 ∷ []
-unfolding run bit link tab zeros every without bothRow intersection eitherRow union gathered throughRow composeRow compose within pairFull rowFull full connected rowSame same rows sooner later after apart arriveBy departBy arrival departure arrivals departures composeTimes ownTime ownTimes inTime rowInTime allInTime allowed cleanRow clean lentPick cleanPick cleanPicks widthOf ownOf joinOf passOf part putPart composeAt copyAt zeroAt ownAt zeroed fresh pickTaken startMoved turned charged tested between ladder rebuilt joinedArea joined extendedBy extended written entered windowArea windowed judged tried cleared minStep raisedBy raised again climb climbed maxStep stepped reported stop openedArea wholeVerdict unions wholeStart stepsOf wholeAfter wholeReport wholeSays
-cases = refl
+pub cases :
+    (run 2 1 A ≡ outcome 9 0 0 1)
+    × (run 2 2 A ≡ outcome 0 2 6 4)
+    × (run 2 3 A ≡ outcome 0 2 3 4)
+    × (run 2 4 A ≡ outcome 0 3 4 4)
+    × (run 2 1 B ≡ outcome 0 3 2 3)
+    × (run 2 3 B ≡ outcome 0 1 0 3)
+    × (run 3 1 C ≡ outcome 0 1 3 5)
+    × (run 2 1 D ≡ outcome 9 0 1 3)
+    × (run 2 3 D ≡ outcome 0 2 0 2)
+    × (run 2 2 F ≡ outcome 0 1 0 1)
+unfolding run bit link tab zeros every without bothRow intersection eitherRow union gathered throughRow composeRow compose within pairFull rowFull full connected
+    rowSame same rows sooner later after apart arriveBy departBy arrival departure arrivals departures composeTimes ownTime ownTimes inTime rowInTime allInTime
+    allowed cleanRow clean lentPick cleanPick cleanPicks widthOf ownOf joinOf passOf part putPart composeAt copyAt zeroAt ownAt zeroed fresh pickTaken
+    startMoved turned charged tested between ladder rebuilt joinedArea joined extendedBy extended written entered windowArea windowed judged tried cleared
+    minStep raisedBy raised again climb climbed maxStep stepped reported stop openedArea wholeVerdict unions wholeStart stepsOf wholeAfter wholeReport
+    wholeSays
+cases = (refl, refl, refl, refl, refl, refl, refl, refl, refl, refl)
 
 -- and each of the ten is right by the meaning: the length over all windows, or 9 where there is none
 abbrev pub RightCase : ℕ → ℕ → List ℕ → Type 0
@@ -58,7 +72,17 @@ right-case : (n measure : ℕ) (w : List ℕ) → wholeVerdict n measure w (zero
 unfolding run
 right-case n measure w e = whole n measure w (zeros (needed measure n (length w / n))) e .right
 
-pub cases-right : RightCase 2 1 A × RightCase 2 2 A × RightCase 2 3 A × RightCase 2 4 A × RightCase 2 1 B × RightCase 2 3 B × RightCase 3 1 C × RightCase 2 1 D × RightCase 2 3 D × RightCase 2 2 F
+pub cases-right :
+    RightCase 2 1 A
+    × RightCase 2 2 A
+    × RightCase 2 3 A
+    × RightCase 2 4 A
+    × RightCase 2 1 B
+    × RightCase 2 3 B
+    × RightCase 3 1 C
+    × RightCase 2 1 D
+    × RightCase 2 3 D
+    × RightCase 2 2 F
 unfolding bit link tab zeros every without allowed cleanRow clean lentPick cleanPick cleanPicks widthOf between stop wholeVerdict
 cases-right = (
   right-case 2 1 A refl,
@@ -85,6 +109,14 @@ G = 4 ∷ 1 ∷ 0 ∷ 0 ∷ 1 ∷ 2 ∷ []
 abbrev pub H : List ℕ
 H = 4 ∷ 1 ∷ 1 ∷ 2 ∷ 5 ∷ 0 ∷ []
 
-pub more-cases : run 3 3 G ∷ run 3 4 H ∷ run 2 4 B ∷ [] ≡ outcome 0 2 1 2 ∷ outcome 0 2 1 2 ∷ outcome 0 1 0 3 ∷ []
-unfolding run bit link tab zeros every without bothRow intersection eitherRow union gathered throughRow composeRow compose within pairFull rowFull full connected rowSame same rows sooner later after apart arriveBy departBy arrival departure arrivals departures composeTimes ownTime ownTimes inTime rowInTime allInTime allowed cleanRow clean lentPick cleanPick cleanPicks widthOf ownOf joinOf passOf part putPart composeAt copyAt zeroAt ownAt zeroed fresh pickTaken startMoved turned charged tested between ladder rebuilt joinedArea joined extendedBy extended written entered windowArea windowed judged tried cleared minStep raisedBy raised again climb climbed maxStep stepped reported stop openedArea wholeVerdict unions wholeStart stepsOf wholeAfter wholeReport wholeSays
-more-cases = refl
+pub more-cases :
+    (run 3 3 G ≡ outcome 0 2 1 2)
+    × (run 3 4 H ≡ outcome 0 2 1 2)
+    × (run 2 4 B ≡ outcome 0 1 0 3)
+unfolding run bit link tab zeros every without bothRow intersection eitherRow union gathered throughRow composeRow compose within pairFull rowFull full connected
+    rowSame same rows sooner later after apart arriveBy departBy arrival departure arrivals departures composeTimes ownTime ownTimes inTime rowInTime allInTime
+    allowed cleanRow clean lentPick cleanPick cleanPicks widthOf ownOf joinOf passOf part putPart composeAt copyAt zeroAt ownAt zeroed fresh pickTaken
+    startMoved turned charged tested between ladder rebuilt joinedArea joined extendedBy extended written entered windowArea windowed judged tried cleared
+    minStep raisedBy raised again climb climbed maxStep stepped reported stop openedArea wholeVerdict unions wholeStart stepsOf wholeAfter wholeReport
+    wholeSays
+more-cases = (refl, refl, refl)
