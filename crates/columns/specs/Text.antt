@@ -1,11 +1,12 @@
 -- Numbers and dashes as text, in columns.
 use mathlib.Core.Bool.{Bool, true, false}
 use mathlib.Core.List.{List, [], _∷_, _++_}
+use mathlib.Core.Path.{_≡_}
 use Prim.Native.Nat.{ℕ, zero, suc, _+_, _/_, _%_}
 use lib.Dec.{ltb}
 use lib.ListN.{length, take, drop}
 use Rattle.columns.specs.declared.Cell.{Cell}
-use Rattle.columns.specs.declared.Cell.the-variants.{Number, Dash}
+use Rattle.columns.specs.declared.Cell.the-variants.{Number, Dash, File}
 
 abbrev pub pickText : Bool → List ℕ → List ℕ → List ℕ
 pickText true a b = a
@@ -20,15 +21,26 @@ decimal (suc f) x = pickText (ltb x 10) ((48 + x) ∷ []) (decimal f (x / 10) ++
 unfoldable pub decimalOf : ℕ → List ℕ
 decimalOf x = decimal x x
 
--- a dash is byte 45
+-- a dash is byte 45; `file` in its four letters
 abbrev pub cellText : Cell → List ℕ
 cellText (Number x) = decimalOf x
 cellText Dash = 45 ∷ []
+cellText File = 102 ∷ 105 ∷ 108 ∷ 101 ∷ []
 
--- three cells with a blank between, and a line end
-unfoldable pub line3 : Cell → Cell → Cell → List ℕ
-line3 a b c = (cellText a ++ (32 ∷ [])) ++ ((cellText b ++ (32 ∷ [])) ++ (cellText c ++ (10 ∷ [])))
+-- five cells with a blank between, and a line end
+unfoldable pub line5 : Cell → Cell → Cell → Cell → Cell → List ℕ
+line5 a b c d e =
+    ((((cellText a ++ (32 ∷ []))
+    ++ (cellText b ++ (32 ∷ [])))
+    ++ (cellText c ++ (32 ∷ [])))
+    ++ (cellText d ++ (32 ∷ [])))
+    ++ (cellText e ++ (10 ∷ []))
 
 -- the buffer, with the bytes xs from `at` on
 unfoldable pub putAt : List ℕ → ℕ → List ℕ → List ℕ
 putAt buf at xs = take at buf ++ (xs ++ drop (at + length xs) buf)
+
+-- after xs is put at a place: the place behind it, and the buffer
+pub record Put (buf : List ℕ) (at : ℕ) (xs : List ℕ) (next : ℕ) (left : List ℕ) : Type 0 where
+  pub behind : next ≡ at + length xs
+  pub bytes : left ≡ putAt buf at xs

@@ -2,13 +2,14 @@
 ghost use mathlib.Core.Path.{_≡_};
 ghost use mathlib.Core.List.{_++_, _∷_, []};
 ghost use Prim.Native.Nat.{_+_, _≤_, _<_};
-ghost use lib.ListN.{length, take};
-ghost use Rattle.columns.specs.Text.{decimalOf, cellText, line3, putAt};
+ghost use lib.ListN.{length};
+ghost use Rattle.columns.specs.Text.{decimalOf, cellText, line5, putAt, Put};
 
-// What a column holds: a number, or a dash where there is none.
+// What a column holds: a number, a dash where there is none, or the word `file`.
 pub enum Cell {
-    Number(u32),
+    Number(usize),
     Dash,
+    File,
 }
 
 // Writes one byte.
@@ -21,7 +22,7 @@ fn put_byte(buf: &mut [u8], at: usize, b: u8) -> usize
 }
 
 // Writes the digits of x, and answers the place behind them.
-fn put_decimal(buf: &mut [u8], at: usize, x: u32) -> usize
+fn put_decimal(buf: &mut [u8], at: usize, x: usize) -> usize
     requires { ⌜ at + length (decimalOf x) ≤ length (now buf) ⌝ }
     ensures { λ r. ⌜ (r ≡ at + length (decimalOf x)) × (now (buf .exit) ≡ putAt (now (buf .entry)) at (decimalOf x)) ⌝ }
 {
@@ -32,10 +33,22 @@ fn put_decimal(buf: &mut [u8], at: usize, x: u32) -> usize
     put_byte(buf, next, 48 + (x % 10) as u8)
 }
 
-// Writes a cell and the byte behind it: at most 10 digits, and one.
+// Writes a text, and answers the place behind it.
+pub fn put_text(buf: &mut [u8], at: usize, text: &[u8]) -> usize
+    requires { ⌜ at + length (now text) ≤ length (now buf) ⌝ }
+    ensures { λ r. ⌜ Put (now (buf .entry)) at (now (text .entry)) r (now (buf .exit)) ⌝ }
+{
+    let n = text.len();
+    for i in 0..n {
+        buf[at + i] = text[i];
+    }
+    at + n
+}
+
+// Writes a cell and the byte behind it: at most 20 digits, and one.
 fn put_cell(buf: &mut [u8], at: usize, cell: Cell, after: u8) -> usize
-    requires { ⌜ at + 11 ≤ length (now buf) ⌝ }
-    ensures { λ r. ⌜ (r ≡ at + length (cellText cell ++ (after ∷ []))) × (r ≤ at + 11) × (now (buf .exit) ≡ putAt (now (buf .entry)) at (cellText cell ++ (after ∷ []))) ⌝ }
+    requires { ⌜ at + 21 ≤ length (now buf) ⌝ }
+    ensures { λ r. ⌜ (r ≡ at + length (cellText cell ++ (after ∷ []))) × (r ≤ at + 21) × (now (buf .exit) ≡ putAt (now (buf .entry)) at (cellText cell ++ (after ∷ []))) ⌝ }
 {
     match cell {
         Cell::Number(x) => {
@@ -46,15 +59,21 @@ fn put_cell(buf: &mut [u8], at: usize, cell: Cell, after: u8) -> usize
             let next = put_byte(buf, at, b'-');
             put_byte(buf, next, after)
         }
+        Cell::File => {
+            let next = put_text(buf, at, b"file");
+            put_byte(buf, next, after)
+        }
     }
 }
 
-// Writes a line of three cells at the start of the buffer, and answers its length.
-pub fn put_line(buf: &mut [u8], a: Cell, b: Cell, c: Cell) -> usize
-    requires { ⌜ 33 ≤ length (now buf) ⌝ }
-    ensures { λ r. ⌜ (r ≤ length (now (buf .exit))) × (r ≡ length (take r (now (buf .exit)))) × (take r (now (buf .exit)) ≡ line3 a b c) ⌝ }
+// Writes a line of five cells, at most 105 bytes, and answers the place behind it.
+pub fn put_line(buf: &mut [u8], at: usize, a: Cell, b: Cell, c: Cell, d: Cell, e: Cell) -> usize
+    requires { ⌜ at + 105 ≤ length (now buf) ⌝ }
+    ensures { λ r. ⌜ Put (now (buf .entry)) at (line5 a b c d e) r (now (buf .exit)) × (r ≤ at + 105) ⌝ }
 {
-    let second = put_cell(buf, 0, a, b' ');
+    let second = put_cell(buf, at, a, b' ');
     let third = put_cell(buf, second, b, b' ');
-    put_cell(buf, third, c, b'\n')
+    let fourth = put_cell(buf, third, c, b' ');
+    let fifth = put_cell(buf, fourth, d, b' ');
+    put_cell(buf, fifth, e, b'\n')
 }

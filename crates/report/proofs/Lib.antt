@@ -1,0 +1,2 @@
+-- The lines written one behind the other.
+pub mod Lines

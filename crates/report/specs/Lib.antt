@@ -1,0 +1,2 @@
+-- What the report of a file holds.
+pub mod Report
