@@ -46,7 +46,7 @@ pub fn put_text(buf: &mut [u8], at: usize, text: &[u8]) -> usize
 }
 
 // Writes a cell and the byte behind it: at most 20 digits, and one.
-fn put_cell(buf: &mut [u8], at: usize, cell: Cell, after: u8) -> usize
+pub fn put_cell(buf: &mut [u8], at: usize, cell: Cell, after: u8) -> usize
     requires { ⌜ at + 21 ≤ length (now buf) ⌝ }
     ensures { λ r. ⌜ (r ≡ at + length (cellText cell ++ (after ∷ []))) × (r ≤ at + 21) × (now (buf .exit) ≡ putAt (now (buf .entry)) at (cellText cell ++ (after ∷ []))) ⌝ }
 {

@@ -1,4 +1,6 @@
 // Units. A pick number is never used as a board number, and compositions and tests are counted apart.
+ghost use mathlib.Core.Path.{_≡_};
+ghost use Rattle.model.specs.Refusals.{number};
 
 // A board's number, from 0 on.
 pub struct Board(pub usize);
@@ -47,4 +49,28 @@ pub enum Refusal {
     // place: n, measure or limit out of range, m above limit, b above m, s not 1 to b + 1, s above m when m is 1 or more,
     // a test marked as failed or as passed when m is 0, compositions above 4 × m or tests above 2 × m
     BadPlace,
+}
+
+// 01's number of a cause.
+pub fn number_of(cause: Refusal) -> usize
+    ensures { λ r. ⌜ r ≡ number cause ⌝ }
+{
+    match cause {
+        Refusal::Boards => 1,
+        Refusal::Measure => 2,
+        Refusal::Picks => 3,
+        Refusal::Room => 4,
+        Refusal::Forbidden => 5,
+        Refusal::Unlisted => 6,
+        Refusal::Full => 7,
+        Refusal::NoPick => 8,
+        Refusal::NoLength => 9,
+        Refusal::Shape => 10,
+        Refusal::Command => 11,
+        Refusal::Stopped => 12,
+        Refusal::Operands => 13,
+        Refusal::Unchanged => 14,
+        Refusal::Trailing => 15,
+        Refusal::BadPlace => 16,
+    }
 }

@@ -5,8 +5,8 @@ use Prim.Native.Nat.{ℕ, zero, suc, _+_, _-_, _*_, _≤_, _<_, zero-le}
 use native.Mathlib.Nat.{sub-zero}
 use native.Mathlib.Numerals.{add-one}
 use native.Mathlib.Omega.{arith}
-use lib.ListN.{length, take}
-use Rattle.columns.proofs.Text.{put, put-then, put-start, texted-start}
+use lib.ListN.{length, take, drop}
+use Rattle.columns.proofs.Text.{put, put-then, put-start, put-beyond, texted-start}
 use Rattle.columns.specs.Text.{Put, line5}
 use Rattle.columns.specs.declared.Cell.the-variants.{Number, Dash, File}
 use Rattle.model.specs.Refusals.{number}
@@ -51,12 +51,12 @@ printed-whole {out₀} {at} {n} {k} {w} {out} {next} {m} p h =
 
 -- ---- the whole report
 
--- two texts put from the start on are read there
-pub both-read : (buf xs ys l₁ l₂ : List ℕ) (r₁ r₂ : ℕ) → Put buf 0 xs r₁ l₁ → Put l₁ r₁ ys r₂ l₂ → take r₂ l₂ ≡ xs ++ ys
+-- two texts put from the start on are read there, and what stood behind them stays
+pub both-read : (buf xs ys l₁ l₂ : List ℕ) (r₁ r₂ : ℕ) → Put buf 0 xs r₁ l₁ → Put l₁ r₁ ys r₂ l₂ → (take r₂ l₂ ≡ xs ++ ys) × (drop r₂ l₂ ≡ drop r₂ buf)
 both-read buf xs ys l₁ l₂ r₁ r₂ p q =
     let t = put-then buf xs ys l₁ l₂ 0 r₁ r₂ zero-le p q in
     let e : r₂ ≡ length (xs ++ ys) = omega (arith, t .behind) in
-    rw (t .bytes, e) (put-start buf (xs ++ ys))
+    rw (t .bytes, e) (put-start buf (xs ++ ys), put-beyond buf (xs ++ ys))
 
 module _ (bytes words : List ℕ) (e : words ≡ zeros 1280) where
   -- of a file that is read: `left` are the words after it

@@ -1,8 +1,7 @@
 // The report of a recording file: the lengths under each measure, as lines of text. `reportOf` in specs/ says every byte.
 ghost use mathlib.Core.Path.{_≡_};
 ghost use Prim.Native.Nat.{_+_, _*_, _≤_};
-ghost use lib.ListN.{length, take};
-ghost use Rattle.model.specs.Refusals.{number};
+ghost use lib.ListN.{length, take, drop};
 ghost use Rattle.lists.specs.Tab.{zeros};
 ghost use Rattle.calls.specs.Answers.{answerSays};
 ghost use Rattle.columns.specs.Text.{Put};
@@ -26,30 +25,6 @@ fn no_area() -> [u32; 5676]
     ensures { λ r. ⌜ (r ≡ zeros 5676) × (5676 ≡ length r) ⌝ }
 {
     [0u32; 5676]
-}
-
-// 01's number of a cause.
-fn number_of(cause: Refusal) -> usize
-    ensures { λ r. ⌜ r ≡ number cause ⌝ }
-{
-    match cause {
-        Refusal::Boards => 1,
-        Refusal::Measure => 2,
-        Refusal::Picks => 3,
-        Refusal::Room => 4,
-        Refusal::Forbidden => 5,
-        Refusal::Unlisted => 6,
-        Refusal::Full => 7,
-        Refusal::NoPick => 8,
-        Refusal::NoLength => 9,
-        Refusal::Shape => 10,
-        Refusal::Command => 11,
-        Refusal::Stopped => 12,
-        Refusal::Operands => 13,
-        Refusal::Unchanged => 14,
-        Refusal::Trailing => 15,
-        Refusal::BadPlace => 16,
-    }
 }
 
 // What a measure answers. The area must do for 40 picks, however many there are; without picks that is not asked.
@@ -87,12 +62,13 @@ fn put_answer(out: &mut [u8], at: usize, measure: usize, answer: Answer) -> usiz
             )
         }
         Answer::Refused(r, c, t) => {
-            let refusal = Cell::Number(number_of(r));
+            let length = Cell::Dash;
+            let refusal = Cell::Number(model::number_of(r));
             columns::put_line(
                 out,
                 at,
                 first,
-                Cell::Dash,
+                length,
                 refusal,
                 Cell::Number(c.0),
                 Cell::Number(t.0),
@@ -114,10 +90,10 @@ fn put_measures(out: &mut [u8], at: usize, n: usize, picks: usize, words: &[u32]
     next
 }
 
-// Writes the report of a file at the start of out, at most 462 bytes, and answers its length.
+// Writes the report of a file at the start of out, at most 462 bytes, and answers its length. What stands behind it stays.
 pub fn report(bytes: &[u8], out: &mut [u8]) -> usize
     requires { ⌜ 462 ≤ length (now out) ⌝ }
-    ensures { λ r. ⌜ (r ≤ length (now (out .exit))) × (take r (now (out .exit)) ≡ reportOf (now (bytes .entry))) ⌝ }
+    ensures { λ r. ⌜ (r ≤ length (now (out .exit))) × (take r (now (out .exit)) ≡ reportOf (now (bytes .entry))) × (drop r (now (out .exit)) ≡ drop r (now (out .entry))) ⌝ }
 {
     let mut words = no_words();
     let at = columns::put_text(out, 0, b"measure length refusal compositions tests\n");
@@ -127,7 +103,7 @@ pub fn report(bytes: &[u8], out: &mut [u8]) -> usize
             put_measures(out, at, boards, picks, &words[0..total])
         }
         Reading::Refused(r) => {
-            let refusal = Cell::Number(number_of(r));
+            let refusal = Cell::Number(model::number_of(r));
             columns::put_line(
                 out,
                 at,

@@ -67,10 +67,11 @@ returns c = let m = c .before .before in
     let r = b .before .before .before in
     let t = r .before .before .before .before in
     let w = t .before .before .before in
-    let s = w .before .before .before in (
+    let s = w .before .before .before in
+    let z = both-read _ _ _ _ _ _ _ (t .put-text .ensures) (m .put-measures .ensures .0) in (
       omega (arith, m .put-measures .ensures .1, m .put-measures .kept .0, t .put-text .ensures .behind, t .put-text .kept .0, s .pre),
-      both-read _ _ _ _ _ _ _ (t .put-text .ensures) (m .put-measures .ensures .0)
-          ∙ of-read _ _ (w .no-words .ensures .0) _ _ _ (sym (r .read .ensures .0) ∙ ap readingSays (b .boards .given .1)) (r .read .ensures .1),
+      z .0 ∙ of-read _ _ (w .no-words .ensures .0) _ _ _ (sym (r .read .ensures .0) ∙ ap readingSays (b .boards .given .1)) (r .read .ensures .1),
+      z .1,
     )
 
 same-length-2 : tie.Need-same-length-2
@@ -83,10 +84,11 @@ returns-2 c = let l = c .before .before in
     let r = b .before .before .before in
     let t = r .before .before .before .before in
     let w = t .before .before .before in
-    let s = w .before .before .before in (
+    let s = w .before .before .before in
+    let z = both-read _ _ _ _ _ _ _ (t .put-text .ensures) (rw (n .number-of .ensures) at (l .put-line .ensures .0)) in (
       omega (arith, l .put-line .ensures .1, l .put-line .kept .0, t .put-text .ensures .behind, t .put-text .kept .0, s .pre),
-      both-read _ _ _ _ _ _ _ (t .put-text .ensures) (rw (n .number-of .ensures) at (l .put-line .ensures .0))
-          ∙ of-refused _ _ (w .no-words .ensures .0) (b .r .given .0 .0) (sym (r .read .ensures .0) ∙ ap readingSays (b .r .given .1)),
+      z .0 ∙ of-refused _ _ (w .no-words .ensures .0) (b .r .given .0 .0) (sym (r .read .ensures .0) ∙ ap readingSays (b .r .given .1)),
+      z .1,
     )
 
 pub report-spec : {M : Type 1} → statement M

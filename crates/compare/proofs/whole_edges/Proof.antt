@@ -1,0 +1,61 @@
+-- `compare::whole_edges` is safe and ends.
+-- Assumes nothing.
+use mathlib.Core.Path.{_≡_}
+use lib.ListN.{length}
+use Prim.Native.Nat.{_-_}
+use borrow.Author.Needs.{needs}
+use Rattle.compare.proofs.whole_edges.Statement.{statement}
+use Rattle.compare.proofs.whole_edges.Tie as tie
+
+abbrev Inv-loop : tie.InvT-loop
+Inv-loop words area₀ t₀ i₀ area t i = length area ≡ length area₀
+
+abbrev μ-loop : tie.MeasureT-loop
+μ-loop words area₀ t₀ i₀ area t i = 17 - i
+
+loop-holds : tie.Need-loop-holds Inv-loop μ-loop
+loop-holds c = search needs
+
+mul-e : tie.Need-mul-e Inv-loop μ-loop
+mul-e c = search needs
+
+array-copy-out-e : tie.Need-array-copy-out-e Inv-loop μ-loop
+array-copy-out-e c = search needs
+
+is-whole-edge-requires : tie.Need-is-whole-edge-requires Inv-loop μ-loop
+is-whole-edge-requires c κs = search needs
+
+counted-requires : tie.Need-counted-requires Inv-loop μ-loop
+counted-requires c κs = search needs
+
+add-i : tie.Need-add-i Inv-loop μ-loop
+add-i c = search needs
+
+loop-less : tie.Need-loop-less Inv-loop μ-loop
+loop-less c = search needs
+
+loop-again : tie.Need-loop-again Inv-loop μ-loop
+loop-again c = search needs
+
+same-length : tie.Need-same-length Inv-loop μ-loop
+same-length c = search needs
+
+returns : tie.Need-returns Inv-loop μ-loop
+returns c = search needs
+
+pub whole-edges-spec : {M : Type 1} → statement M
+whole-edges-spec =
+    tie.close
+    (tie.spec
+    Inv-loop
+    μ-loop
+    loop-holds
+    mul-e
+    array-copy-out-e
+    is-whole-edge-requires
+    counted-requires
+    add-i
+    loop-less
+    loop-again
+    same-length
+    returns)
