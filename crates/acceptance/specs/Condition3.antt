@@ -2,7 +2,8 @@
 use mathlib.Core.Logic.{_↔_}
 use mathlib.Core.List.{List, _++_}
 use Prim.Native.Nat.{ℕ, _≤_}
-use Rattle.law.specs.Condition3Runs.{Lent, SameWritten, Between, RunsNeverApart, condition-3-runs}
+use Rattle.law.specs.Claim3.{Lent, SameWritten, Between, RunsNeverApart}
+use Rattle.law.specs.Condition3Runs.{condition-3-runs}
 
 -- Whatever two recordings over n boards are lent, of 1 to 4,094 picks each: the tables that the call writes are equal in every word exactly when,
 -- whatever recording is set before both and whatever recording after both, the whole run under measure 3 never answers a reach length for one

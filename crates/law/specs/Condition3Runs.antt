@@ -25,37 +25,12 @@ use Rattle.calls.specs.Answers.{Outcome, outcome}
 use Rattle.calls.specs.Calls.{stop, needed, wholeVerdict, wholeReport, wholeSays}
 use Rattle.calls.proofs.Verdicts.{stop-step}
 use Rattle.reach.specs.Tables.{tableVerdict, tableOf, tableLeaves}
+use Rattle.law.specs.Claim3.{Lent, SameWritten, Between, RunsNeverApart}
 use Rattle.law.specs.Condition3.{SameTables, Around, NeverApart, HasReach, NoReach}
 use Rattle.law.specs.Unlimited.{table-marks, condition-3-unlimited}
 use Rattle.law.specs.Correct.{Right, answered, none-exists}
 use Rattle.law.specs.Whole.{recording, whole}
 use Rattle.law.specs.Joined.{flat, flat-words, flat-picks, flat-clean, picks-join, clean-join}
-
--- ---- the claim
-
--- w is a recording of m picks over n boards, lent as words
-pub record Lent (n m : ℕ) (w : List ℕ) : Type 0 where
-  pub words : length w ≡ m * n
-  pub clean : T (cleanPicks n w m)
-
--- the tables that the call writes are equal in every word, in whatever outputs
-abbrev pub SameWritten : ℕ → List ℕ → List ℕ → Type 0
-SameWritten n x y = (o p : List ℕ) → n ≤ length o → n ≤ length p → (u : ℕ) → u < n → getD (tableLeaves n x o) u 0 ≡ getD (tableLeaves n y p) u 0
-
--- words set before and after recordings of i and of j picks: b and a picks, one or more each, and each joined recording at most 4,096
-pub record Between (n i j : ℕ) (before after : List ℕ) : Type 0 where
-  pub b : ℕ
-  pub a : ℕ
-  pub before-lent : Lent n b before
-  pub after-lent : Lent n a after
-  pub some-before : 1 ≤ b
-  pub some-after : 1 ≤ a
-  pub fits-first : b + i + a ≤ 4096
-  pub fits-second : b + j + a ≤ 4096
-
--- in whatever two areas, dirty or short, it never happens that v has a reach length and w is refused by 9 (a short area is refused by 4)
-abbrev pub RunsNeverApart : ℕ → List ℕ → List ℕ → Type 0
-RunsNeverApart n v w = (a b : List ℕ) → wholeSays n 3 v a .refusal ≡ 0 → wholeSays n 3 w b .refusal ≡ 9 → ⊥
 
 -- ---- what a run says
 

@@ -16,4 +16,5 @@ pub mod Measures
 pub mod Online
 pub mod Whole
 pub mod Joined
+pub mod Claim3
 pub mod Condition3Runs
