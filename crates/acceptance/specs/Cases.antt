@@ -18,7 +18,8 @@ use Rattle.calls.specs.Answers.{Outcome, outcome}
 use Rattle.calls.specs.Calls.{stop, needed, openedArea, wholeVerdict, unions, wholeStart, stepsOf, wholeAfter, wholeReport, wholeSays}
 use Rattle.reach.specs.Tables.{tableOf}
 use Rattle.law.specs.Correct.{Passes, Right}
-use Rattle.law.specs.Whole.{recording, whole}
+use Rattle.law.specs.Claim2.{recording}
+use Rattle.law.specs.Whole.{whole}
 
 -- the whole run in an area exact to the word
 unfoldable pub run : ℕ → ℕ → List ℕ → Outcome

@@ -18,8 +18,9 @@ use Rattle.reach.specs.Tables.{tableVerdict, tableOf, tableLeaves}
 use Rattle.reach.proofs.Picks.{table-sound}
 use Rattle.law.specs.Unlimited.{table-marks}
 use Rattle.law.specs.Correct.{Counted}
-use Rattle.law.specs.Online.{opened, after, Taken, Walked, online}
-use Rattle.law.specs.Whole.{recording, listCost, Ran, whole}
+use Rattle.law.specs.Claim2.{opened, after, Taken, Walked, recording, listCost, Ran}
+use Rattle.law.specs.Online.{online}
+use Rattle.law.specs.Whole.{whole}
 
 -- PICK BY PICK. For every opening that is answered by a place and every sequence of picks that are taken, record and area coming back as the last
 -- call left them: the length call answers the length over all windows of the picks so far (`Walked .right`), 9 only where none exists, with the

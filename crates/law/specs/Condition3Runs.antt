@@ -4,7 +4,7 @@ use mathlib.Core.Path.{_≡_, refl, sym, ap, ap₂, _∙_, subst}
 use mathlib.Core.Logic.{_⊎_, inl, inr, ⊎-elim, _↔_}
 use mathlib.Core.Bool.{Bool, true, false, not}
 use mathlib.Core.List.{List, _++_}
-use Prim.Native.Nat.{ℕ, zero, suc, _+_, _*_, _/_, _%_, _≤_, _<_}
+use Prim.Native.Nat.{ℕ, zero, suc, _+_, _/_, _%_, _≤_, _<_}
 use native.Mathlib.Nat.{le-refl, add-mul, mul-div-cancel, mul-mod-left}
 use native.Mathlib.Omega.{arith}
 use lib.Dec.{T, eqb, eqb→eq, leb, le→leb, ltb, ltb→lt}
@@ -29,7 +29,8 @@ use Rattle.law.specs.Claim3.{Lent, SameWritten, Between, RunsNeverApart}
 use Rattle.law.specs.Condition3.{SameTables, Around, NeverApart, HasReach, NoReach}
 use Rattle.law.specs.Unlimited.{table-marks, condition-3-unlimited}
 use Rattle.law.specs.Correct.{Right, answered, none-exists}
-use Rattle.law.specs.Whole.{recording, whole}
+use Rattle.law.specs.Claim2.{recording}
+use Rattle.law.specs.Whole.{whole}
 use Rattle.law.specs.Joined.{flat, flat-words, flat-picks, flat-clean, picks-join, clean-join}
 
 -- ---- what a run says

@@ -13,6 +13,7 @@ pub mod Opened
 pub mod Walks
 pub mod Correct
 pub mod Measures
+pub mod Claim2
 pub mod Online
 pub mod Whole
 pub mod Joined

@@ -1,17 +1,16 @@
 -- CONDITION 2, pick by pick, over the calls: an opening that is answered by a place, picks that are taken, record and area coming back as the
 -- last call left them. Assumes nothing.
 use mathlib.Core.Path.{_≡_, refl, sym, ap, ap₂, _∙_, subst}
-use mathlib.Core.Logic.{_≢_, _⊎_, inl, inr, ⊎-elim, _↔_}
-use mathlib.Core.Bool.{Bool, true, false, not}
+use mathlib.Core.Logic.{inr, _↔_}
+use mathlib.Core.Bool.{Bool, not}
 use mathlib.Core.List.{List, [], _∷_, _++_}
-use Prim.Native.Nat.{ℕ, zero, suc, _+_, _-_, _*_, _≤_, _<_, zero-le}
+use Prim.Native.Nat.{ℕ, zero, suc, _+_, _-_, _*_, _≤_, zero-le}
 use native.Mathlib.Nat.{le-refl, le-of-suc-le-suc}
 use native.Mathlib.Omega.{arith}
 use lib.Dec.{T, eqb, eqb→eq}
-use lib.ListN.{length, getD}
+use lib.ListN.{length}
 use Rattle.model.specs.Recording.{link, Clean, Recording, pickAt}
-use Rattle.model.specs.Journey.{val, Open}
-use Rattle.model.proofs.Logic.{T→≡, F→≡, eq-refl}
+use Rattle.model.proofs.Logic.{F→≡}
 use Rattle.model.proofs.Monotone.{Listed}
 use Rattle.checks.specs.Checks.{clean, listed}
 use Rattle.checks.proofs.Clean.{clean-is, listed-is}
@@ -20,36 +19,22 @@ use Rattle.measures.proofs.Words.{width-links}
 use Rattle.area.specs.Parts.{part}
 use Rattle.area.proofs.Laws.{kit-wide, own-wide}
 use Rattle.place.specs.declared.Place.{Place}
-use Rattle.place.specs.Places.{Sound, soundPlace, fresh, nowhere, charged}
+use Rattle.place.specs.Places.{Sound, fresh, nowhere, charged}
 use Rattle.place.proofs.Laws.{sound-in}
 use Rattle.steps.specs.Walk.{State, state, kitOf, stepped, reported}
-use Rattle.calls.specs.Answers.{Outcome, outcome}
-use Rattle.calls.specs.Calls.{needed, openVerdict, openedArea, openSays, openLeaves, pickVerdict, pickState, reportSays, lengthSays}
-use Rattle.calls.specs.Fit.{Opens, Takes}
+use Rattle.calls.specs.Answers.{outcome}
+use Rattle.calls.specs.Calls.{needed, openVerdict, openedArea, openSays, openLeaves, pickVerdict, reportSays, lengthSays}
 use Rattle.calls.proofs.Verdicts.{open-sound, pick-sound, taken-state, refused-state}
-use Rattle.steps.proofs.Frames.{Room, Frame, rise, stepped-frame, Untouched}
+use Rattle.steps.proofs.Frames.{stepped-frame}
 use Rattle.law.specs.Faithful.{windowTable}
-use Rattle.law.specs.Runs.{Kept, stepped-kept, walked, walked-kept}
+use Rattle.law.specs.Runs.{stepped-kept, walked, walked-kept}
 use Rattle.calls.proofs.Opened.{opened-list}
 use Rattle.law.specs.Opened.{start}
 use Rattle.law.specs.Correct.{Passes, Right, Counted}
-use Rattle.law.specs.Measures.{Fits, Charge, Told, told, PartsAre, parts}
+use Rattle.law.specs.Claim2.{picked, after, Taken, opened, Walked}
+use Rattle.law.specs.Measures.{Fits, Charge, told, PartsAre, parts}
 
 -- ---- picks through the call, one after the other
-
--- the state that the call for a pick leaves
-abbrev pub picked : State → List ℕ → State
-picked st w = pickState (st .place) (st .area) w
-
--- the state after picks ws
-unfoldable pub after : State → List (List ℕ) → State
-after st [] = st
-after st (w ∷ ws) = after (picked st w) ws
-
--- each of them is taken
-abbrev pub Taken : State → List (List ℕ) → Type 0
-Taken st [] = Unit {0}
-Taken st (w ∷ ws) = (pickVerdict (st .place) (st .area) w ≡ 0) × Taken (picked st w) ws
 
 -- THEOREM, stopping and starting: picks taken one after another are the same as the first part of them and then the rest, gone on with from the
 -- same record and area.
@@ -165,27 +150,11 @@ good-listed n measure l (w ∷ ws) m k g (suc (suc t)) u v a b o = good-listed n
 
 -- ---- THE THEOREM
 
--- the state that an opening hands over
-abbrev pub opened : ℕ → ℕ → ℕ → List ℕ → List ℕ → State
-opened n measure limit footprint a = state (openSays n measure limit footprint a .place) (openLeaves n measure limit footprint a)
-
 opened-start : (n measure limit : ℕ) (footprint a : List ℕ) (e : openVerdict n measure limit footprint a ≡ 0) (room : needed measure n limit ≤ length a) (list : measure ≡ 2 → n ≡ length footprint)
     → opened n measure limit footprint a ≡ start n measure limit footprint a room list 0
 unfolding openSays openLeaves fresh charged
 opened-start n measure limit footprint a e room list =
     ap (λ (b : ℕ). state (either (eqb b 0) (fresh measure n limit) nowhere) (either (eqb b 0) (openedArea n measure limit footprint a) a)) e
-
--- what holds after the picks ws were taken
-pub record Walked (n measure limit : ℕ) (footprint : List ℕ) (ws : List (List ℕ)) (p : Place) : Type 0 where
-  -- they are a recording over n boards, within the limit; under measure 2 the footprint has their links
-  pub recorded : Recording n ws
-  pub within : length ws ≤ limit
-  pub fits : Fits measure footprint ws n
-  -- the place is never 16
-  pub sound : Sound p
-  -- the length call answers the length over all windows of the picks so far, or 9 where there is none, with counts within the bounds
-  pub right : Right measure (Passes measure n footprint ws) (length ws) (lengthSays p)
-  pub counted : Counted measure 0 (length ws) (lengthSays p)
 
 length-reports : (p : Place) → Sound p → 1 ≤ p .taken .0 → lengthSays p ≡ reportSays (reported p) p
 unfolding lengthSays

@@ -1,10 +1,10 @@
 -- CONDITION 2 for whole runs, over the call: any recording lent as words, any area that is long enough, whatever it held. Under measure 2 the
 -- union of all picks is the footprint, at m - 1 compositions more. Assumes nothing.
 use mathlib.Core.Path.{_≡_, refl, sym, ap, _∙_, subst}
-use mathlib.Core.Logic.{_↔_, _⊎_, inl, inr, ⊎-elim}
-use mathlib.Core.Bool.{Bool, true, false, _||_}
+use mathlib.Core.Logic.{_↔_, _⊎_, ⊎-elim}
+use mathlib.Core.Bool.{Bool}
 use mathlib.Core.List.{List}
-use Prim.Native.Nat.{ℕ, zero, suc, _+_, _-_, _*_, _/_, _≤_, _<_}
+use Prim.Native.Nat.{ℕ, zero, suc, _-_, _*_, _/_, _≤_, _<_}
 use native.Mathlib.Nat.{le-refl, eq-or-lt-of-le}
 use native.Mathlib.Omega.{arith}
 use lib.Dec.{T, eqb, eqb→eq}
@@ -12,7 +12,6 @@ use lib.ListN.{length}
 use Rattle.model.specs.Recording.{link, Words, Clean, Recording, pickAt}
 use Rattle.model.specs.Journey.{Open}
 use Rattle.model.specs.Measures.{SomeLink, PassesFootprint}
-use Rattle.model.specs.Length.{NoLength}
 use Rattle.model.proofs.Logic.{tr, F→≡, or-l, or-r, or-cases}
 use Rattle.model.proofs.Links.{link-from}
 use Rattle.model.proofs.Windows.{pick-at}
@@ -23,26 +22,16 @@ use Rattle.checks.specs.Lent.{lentPick, lentPicks, cleanPicks}
 use Rattle.checks.proofs.Lent.{length-lent, lent-recording, lent-at}
 use Rattle.measures.specs.Kit.{kit, either}
 use Rattle.area.specs.Parts.{zeroed}
-use Rattle.place.specs.declared.Place.{Place}
-use Rattle.place.specs.Places.{fresh, charged}
 use Rattle.steps.specs.Walk.{State, stepped, reported}
-use Rattle.calls.specs.Answers.{Outcome, outcome}
+use Rattle.calls.specs.Answers.{outcome}
 use Rattle.calls.specs.Calls.{needed, wholeVerdict, unions, stepsOf, wholeStart, wholeAfter, wholeReport, wholeSays, wholeLeaves, reportSays}
-use Rattle.calls.specs.Fit.{Runs}
 use Rattle.calls.proofs.Verdicts.{whole-sound}
 use Rattle.calls.proofs.Loops.{length-unions}
 use Rattle.law.specs.Runs.{walked}
 use Rattle.law.specs.Opened.{start}
-use Rattle.law.specs.Correct.{Passes, IsLength, Right, answered, none-exists, Counted}
-use Rattle.law.specs.Measures.{Fits, Charge, Told, told}
-
--- the picks lent as words, m of them
-abbrev pub recording : ℕ → List ℕ → List (List ℕ)
-recording n w = lentPicks n w (length w / n)
-
--- what a whole run charges before pick 1
-abbrev pub listCost : ℕ → ℕ → ℕ
-listCost measure m = either (eqb measure 2) (m - 1) 0
+use Rattle.law.specs.Correct.{Passes, Right, answered, none-exists, Counted}
+use Rattle.law.specs.Measures.{Fits, Charge, told}
+use Rattle.law.specs.Claim2.{recording, listCost, Ran}
 
 -- ---- the union of all picks
 
@@ -108,15 +97,6 @@ whole-walks n measure w a room list zero h = refl
 whole-walks n measure w a room list (suc k) h =
     ap (stepped (kit measure n) (lentPick n w k)) (whole-walks n measure w a room list k (omega arith))
     ∙ ap (λ (p : List ℕ). stepped (kit measure n) p (walked (kit measure n) (recording n w) (start n measure (length w / n) (unions n w (length w / n)) a room list (listCost measure (length w / n))) k)) (sym (lent-at n w (length w / n) k h))
-
--- what holds of a whole run that no cause refuses
-pub record Ran (n measure : ℕ) (w : List ℕ) (o : Outcome) : Type 0 where
-  pub recorded : Recording n (recording n w)
-  pub picks : length (recording n w) ≡ length w / n
-  -- under measure 2 the footprint has exactly the links open at some pick
-  pub footprint : (u v : ℕ) → T (link (unions n w (length w / n)) u v) ↔ SomeLink (recording n w) 1 (length w / n) u v
-  pub right : Right measure (Passes measure n (unions n w (length w / n)) (recording n w)) (length w / n) o
-  pub counted : Counted measure (listCost measure (length w / n)) (length w / n) o
 
 -- CONDITION 2 for whole runs: in any area, dirty or not, that no cause refuses.
 pub whole : (n measure : ℕ) (w a : List ℕ) → wholeVerdict n measure w a ≡ 0 → Ran n measure w (wholeSays n measure w a)
