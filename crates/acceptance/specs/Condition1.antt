@@ -1,11 +1,11 @@
 -- CONDITION 1 of the tender: for all input whatsoever each call answers by an answer of the listed kinds or by one of its numbered refusals, and a
 -- refused call changes nothing. That each call meets these definitions for every input, and always returns, is its proved contract: none has a
 -- `requires`. Assumes nothing.
-use mathlib.Core.Path.{_≡_, refl, sym, ap, _∙_, subst}
+use mathlib.Core.Path.{_≡_, refl, ap}
 use mathlib.Core.Bool.{Bool, true, false, _&&_, not}
 use mathlib.Core.Option.{Option, none, some}
 use mathlib.Core.List.{List, [], _∷_, _++_}
-use Prim.Native.Nat.{ℕ, zero, suc, _+_, _/_, _%_}
+use Prim.Native.Nat.{ℕ, _+_, _/_, _%_}
 use lib.Dec.{T, eqb, eqb→eq, leb, ltb}
 use lib.ListN.{length, drop}
 use Rattle.model.specs.declared.Refusal.{Refusal}
@@ -19,7 +19,7 @@ use Rattle.area.specs.Parts.{part}
 use Rattle.place.specs.declared.Place.{Place}
 use Rattle.place.specs.Places.{fresh, nowhere, between, soundPlace}
 use Rattle.steps.specs.Walk.{State, reported}
-use Rattle.calls.specs.Answers.{Outcome, outcome}
+use Rattle.calls.specs.Answers.{outcome}
 use Rattle.calls.specs.Calls.{stop, needed, openVerdict, openedArea, openSays, openLeaves, pickVerdict, pickSays, pickLeaves, reportSays, lengthSays, wholeVerdict, wholeAfter, wholeReport, wholeSays, wholeLeaves}
 use Rattle.calls.proofs.Verdicts.{refused-state}
 use Rattle.reach.specs.Tables.{tableVerdict, tableOf, tableLeaves}

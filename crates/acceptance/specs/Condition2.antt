@@ -8,7 +8,7 @@ use lib.Dec.{T, eqb}
 use lib.ListN.{length, getD, drop, List·getD-append}
 use native.Mathlib.Nat.{le-refl}
 use native.Mathlib.Omega.{arith}
-use Rattle.model.specs.Recording.{bit, link, Recording}
+use Rattle.model.specs.Recording.{bit, link}
 use Rattle.model.specs.Journey.{unlimited, Journey}
 use Rattle.checks.proofs.Lent.{length-lent, lent-recording}
 use Rattle.measures.specs.Kit.{either}

@@ -1,33 +1,26 @@
 -- CONDITION 3 of the mission over the definitions: one claim, both ways, with h, the most links in one pick, left open. Two recordings have
 -- equal tables of reach exactly when no part before and no part after tells them apart by a reach length. Assumes nothing.
-use mathlib.Core.Path.{_≡_, refl, sym, ap, _∙_, subst}
-use mathlib.Core.Logic.{_≢_, _⊎_, inl, inr, ⊎-elim, _↔_}
-use mathlib.Core.Bool.{Bool, true, false, _&&_, not}
+use mathlib.Core.Path.{_≡_, sym, ap, subst}
+use mathlib.Core.Logic.{_≢_, _⊎_, ⊎-elim, _↔_}
 use mathlib.Core.List.{List, [], _∷_, _++_}
-use Prim.Native.Nat.{ℕ, suc, _+_, _-_, _^_, _≤_, _<_, zero-le}
-use native.Mathlib.Nat.{le-refl, lt-of-le-of-lt, le-of-lt}
+use Prim.Native.Nat.{ℕ, _+_, _-_, _≤_, _<_}
+use native.Mathlib.Nat.{le-refl}
 use native.Mathlib.Omega.{arith}
-use lib.Dec.{T, eqb, eqb→eq}
+use lib.Dec.{T}
 use lib.ListN.{length, getD, length-append}
-use lib.Seq.{ext-getD}
-use lib.Pow.{pow-pos, pow-lt}
-use Rattle.model.specs.Recording.{bit, link, Words, Clean, Recording}
-use Rattle.model.specs.Journey.{Limit, unlimited, atMost, Within, Journey}
+use Rattle.model.specs.Recording.{bit, link, Recording}
+use Rattle.model.specs.Journey.{Limit, atMost, Journey}
 use Rattle.model.specs.Measures.{EveryPair, PassesReach}
 use Rattle.model.specs.Length.{NoLength, HasSmallest}
-use Rattle.model.proofs.Logic.{tr, bool-ext, cases, eq-or, dec-of, not-in, not-out, eq-refl, eqb-ne, ne-eqb}
-use Rattle.model.proofs.Bits.{bit-one, bit-complement, bit-high}
-use Rattle.model.proofs.Links.{link-from, links-ext}
+use Rattle.model.proofs.Logic.{bool-ext, cases, eq-or, dec-of}
+use Rattle.model.proofs.Links.{links-ext}
 use Rattle.model.proofs.Windows.{window-all, rec-append}
-use Rattle.model.proofs.Trips.{Walk, stop, step, Hop, Trip, trip-join, trip-split, trip-to, trip-stay, journey-all}
+use Rattle.model.proofs.Trips.{Trip, trip-join, trip-split, trip-to, trip-stay, journey-all}
 use Rattle.model.proofs.Lengths.{Decided, smallest-whole, none-whole}
 use Rattle.model.proofs.Monotone.{reach-up}
-use Rattle.lists.specs.Tab.{tab, kept}
-use Rattle.lists.proofs.Tab.{length-tab, getD-tab}
 use Rattle.links.specs.Tables.{compose, within, full}
 use Rattle.links.specs.Composed.{reach}
 use Rattle.links.specs.Tells.{Marks}
-use Rattle.links.proofs.Bits.{link-tab, tab-words, bit-kept}
 use Rattle.links.proofs.Tells.{Reaches, full-test}
 use Rattle.law.specs.Faithful.{windowTable, window-tells}
 use Rattle.law.specs.Kits.{reach-faithful}

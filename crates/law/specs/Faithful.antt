@@ -1,7 +1,7 @@
 -- What the measures share, with the composition and the own tables as parameters: tables that tell the truth of single picks, and whose
 -- composition tells it of two adjacent windows, tell it of every window; and a window has one table, in whatever order it is composed.
 -- Assumes nothing.
-use mathlib.Core.Path.{_≡_, sym, ap, _∙_, subst}
+use mathlib.Core.Path.{_≡_, ap, _∙_, subst}
 use mathlib.Core.List.{List, [], _∷_}
 use Prim.Native.Nat.{ℕ, zero, suc, _+_, _-_, _≤_, _<_}
 use native.Mathlib.Nat.{le-refl}

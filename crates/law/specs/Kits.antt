@@ -1,9 +1,8 @@
 -- The four measures: each kit's tables tell the truth of every window, and its test holds exactly when the window passes. `hops` is the most
 -- links in one pick, `turn` the turn-round; both stay open. Assumes nothing.
-use mathlib.Core.Path.{_≡_, sym}
 use mathlib.Core.Logic.{_↔_}
 use mathlib.Core.List.{List}
-use Prim.Native.Nat.{ℕ, suc, _≤_, _<_}
+use Prim.Native.Nat.{ℕ, _≤_}
 use native.Mathlib.Nat.{le-refl}
 use native.Mathlib.Omega.{arith}
 use lib.Dec.{T}
@@ -22,7 +21,7 @@ use Rattle.links.specs.Tells.{Marks}
 use Rattle.links.proofs.Tells.{marks-once, common-own, common-join, footprint-own, footprint-join, Reaches, reach-own, reach-join, full-test, connected-test, same-test, Below}
 use Rattle.times.specs.Tells.{TellsTimes}
 use Rattle.times.proofs.Times.{own-tells, compose-tells, tells-once, tells-test}
-use Rattle.measures.specs.Kit.{Kit, kitWith, widthOf, ownOf, joinOf, passOf}
+use Rattle.measures.specs.Kit.{Kit, kitWith, ownOf, joinOf, passOf}
 use Rattle.law.specs.Faithful.{Faithful, windowTable, window-tells}
 
 -- the test of K against the footprint tells whether a window passes

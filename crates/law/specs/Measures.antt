@@ -1,18 +1,17 @@
 -- CONDITION 2 for the four measures of document 01, from an opened state: what the walk reports after each pick is right, and counted within
 -- the bounds. Assumes nothing.
-use mathlib.Core.Path.{_≡_, refl, sym, ap, _∙_, subst}
-use mathlib.Core.Logic.{_↔_}
-use mathlib.Core.Bool.{Bool, true, false, not}
+use mathlib.Core.Path.{_≡_, refl, sym, _∙_, subst}
+use mathlib.Core.Bool.{not}
 use mathlib.Core.Option.{Option, none, some}
 use mathlib.Core.List.{List}
-use Prim.Native.Nat.{ℕ, zero, suc, _+_, _-_, _*_, _≤_, _<_}
+use Prim.Native.Nat.{ℕ, zero, suc, _-_, _≤_}
 use native.Mathlib.Omega.{arith}
 use lib.Dec.{T, eqb}
 use lib.ListN.{length}
 use Rattle.model.specs.Recording.{Clean, Recording, pickAt}
 use Rattle.model.specs.Journey.{unlimited, atMost}
 use Rattle.model.specs.Measures.{CommonLink, SomeLink, PassesCommon, PassesFootprint, PassesReach, PassesRoundTrip}
-use Rattle.model.specs.Length.{Smallest, NoLength, Upward}
+use Rattle.model.specs.Length.{Upward}
 use Rattle.model.proofs.Logic.{eqb-ne}
 use Rattle.model.proofs.Lengths.{Agree, smallest-agree, none-agree}
 use Rattle.model.proofs.Monotone.{Listed, common-down, footprint-up, reach-up}
@@ -23,7 +22,6 @@ use Rattle.measures.specs.Kit.{Kit, kit}
 use Rattle.place.specs.declared.Place.{Place}
 use Rattle.place.specs.Places.{Sound}
 use Rattle.steps.specs.Walk.{State, reported}
-use Rattle.calls.specs.Answers.{Outcome, outcome}
 use Rattle.calls.specs.Calls.{needed, reportSays}
 use Rattle.law.specs.Faithful.{Faithful, windowTable}
 use Rattle.law.specs.Kits.{Tested, common-faithful, common-tested, footprint-faithful, footprint-tested, reach-kit, reach-tested, round-faithful, round-tested, round-upward}
@@ -34,7 +32,7 @@ use Rattle.law.specs.Runs.{walked}
 use Rattle.calls.proofs.Opened.{opened-list}
 use Rattle.law.specs.Opened.{start, listed}
 use Rattle.law.specs.Walks.{Holds, HoldsOrEnded, min-parts, max-parts, min-answer, min-tests, min-compositions, min-sound, max-answer, max-tests-within, max-compositions, max-sound}
-use Rattle.law.specs.Correct.{Passes, IsLength, Right, answered, none-exists, Counted}
+use Rattle.law.specs.Correct.{Passes, Right, answered, none-exists, Counted}
 
 -- a report is right where what it says is
 right-max : (P : ℕ → ℕ → Type 0) (m : ℕ) (o : Option ℕ) (p : Place) → MaxAnswer P m o → Right 1 P m (reportSays o p)

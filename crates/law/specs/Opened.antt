@@ -1,25 +1,17 @@
 -- The state that a walk starts from: the fresh place and the area as opening leaves it. Assumes nothing.
-use mathlib.Core.Path.{_≡_, refl, sym, ap, _∙_, subst}
-use mathlib.Core.Logic.{_≢_}
-use mathlib.Core.Bool.{Bool, true, false}
+use mathlib.Core.Path.{_≡_, refl}
 use mathlib.Core.List.{List}
-use Prim.Native.Nat.{ℕ, suc, _+_, _-_, _*_, _≤_, _<_}
+use Prim.Native.Nat.{ℕ, _+_, _-_, _≤_}
 use native.Mathlib.Nat.{le-refl}
 use native.Mathlib.Omega.{arith}
-use lib.Dec.{T, eqb, eqb→eq}
-use lib.ListN.{length, drop}
-use Rattle.model.proofs.Logic.{T→≡, eq-refl}
-use Rattle.lists.specs.Tab.{zeros}
-use Rattle.measures.specs.Kit.{Kit, kit, widthOf, either}
-use Rattle.measures.proofs.Words.{width-links}
-use Rattle.area.specs.Parts.{part, putPart, zeroed}
-use Rattle.area.proofs.Laws.{put-length, put-same, put-other, put-beyond, zeroed-length, zeroed-part, zeroed-beyond}
+use lib.ListN.{length}
+use Rattle.measures.specs.Kit.{kit, widthOf}
+use Rattle.area.specs.Parts.{part}
 use Rattle.place.specs.Places.{fresh, charged}
 use Rattle.steps.specs.Walk.{State, state}
 use Rattle.calls.specs.Calls.{needed, openedArea}
 use Rattle.calls.proofs.Opened.{opened-length, opened-part}
-use Rattle.steps.proofs.Frames.{either-ind}
-use Rattle.law.specs.Ladders.{Laddered, holds}
+use Rattle.law.specs.Ladders.{Laddered}
 use Rattle.law.specs.MinWalk.{Stands}
 use Rattle.law.specs.MaxWalk.{Lives}
 

@@ -1,22 +1,20 @@
 -- Runs: the state after some picks, what a pick keeps of the place, and the law that each measure's walk rests on. Assumes nothing.
-use mathlib.Core.Path.{_≡_, refl, sym, ap, _∙_, subst}
-use mathlib.Core.Logic.{_↔_}
+use mathlib.Core.Path.{_≡_, refl, ap, _∙_}
 use mathlib.Core.Bool.{Bool, true, false}
 use mathlib.Core.List.{List}
-use Prim.Native.Nat.{ℕ, zero, suc, _+_, _-_, _*_, _≤_, _<_}
-use native.Mathlib.Nat.{le-refl}
+use Prim.Native.Nat.{ℕ, zero, suc, _+_, _-_}
 use native.Mathlib.Numerals.{add-one}
 use native.Mathlib.Omega.{arith}
-use lib.Dec.{T, eqb, ltb}
+use lib.Dec.{eqb, ltb}
 use lib.ListN.{length}
 use Rattle.model.specs.Recording.{Recording, pickAt}
 use Rattle.model.specs.Journey.{val}
 use Rattle.model.proofs.Windows.{pick-at}
-use Rattle.measures.specs.Kit.{Kit, kit, widthOf, either}
-use Rattle.area.proofs.Laws.{Wide, kit-wide, own-wide}
+use Rattle.measures.specs.Kit.{Kit, kit}
+use Rattle.area.proofs.Laws.{kit-wide, own-wide}
 use Rattle.place.specs.declared.Place.{Place}
 use Rattle.place.specs.Places.{pickTaken, startMoved, turned, charged, tested}
-use Rattle.steps.specs.Walk.{State, state, rebuilt, joined, far, extendedBy, extended, written, entered, windowed, judged, tried, cleared, minStep, raisedBy, raised, again, climb, climbed, ended, maxStep, stepped}
+use Rattle.steps.specs.Walk.{State, state, rebuilt, joined, extendedBy, extended, written, entered, windowed, judged, tried, cleared, minStep, raisedBy, raised, again, climb, climbed, ended, maxStep, stepped}
 use Rattle.law.specs.Faithful.{Faithful, windowTable, split-law, single-law}
 use Rattle.law.specs.Ladders.{Law}
 use Rattle.steps.proofs.Frames.{either-ind}

@@ -1,21 +1,20 @@
 -- Document 01 has no limit on the links crossed in one pick. With at most 32 boards 31 are none, so what the tables with at most 31 tell holds of
 -- journeys without a limit. Assumes nothing.
-use mathlib.Core.Logic.{_≢_, _↔_}
+use mathlib.Core.Logic.{_↔_}
 use mathlib.Core.List.{List, _++_}
 use Prim.Native.Nat.{ℕ, suc, _≤_, _<_}
-use native.Mathlib.Nat.{le-refl, le-trans}
+use native.Mathlib.Nat.{le-refl}
 use native.Mathlib.Omega.{arith}
-use lib.Dec.{T}
 use lib.ListN.{length}
-use Rattle.model.specs.Recording.{link, Recording}
-use Rattle.model.specs.Journey.{Limit, unlimited, atMost, Journey, Arrival, Departure}
+use Rattle.model.specs.Recording.{Recording}
+use Rattle.model.specs.Journey.{Limit, unlimited, atMost, Journey}
 use Rattle.model.specs.Measures.{PassesReach, RoundTrip, PassesRoundTrip}
 use Rattle.model.proofs.Hops.{no-limit}
 use Rattle.model.proofs.Lengths.{Agree, agree-back, smallest-agree, none-agree}
 use Rattle.links.specs.Composed.{reach}
 use Rattle.links.specs.Tells.{Marks}
 use Rattle.links.proofs.Tells.{Reaches}
-use Rattle.law.specs.Condition3.{SameTables, Around, NeverApart, joined-recorded, reach-marks, condition-3}
+use Rattle.law.specs.Condition3.{SameTables, NeverApart, joined-recorded, reach-marks, condition-3}
 
 -- journeys under two limits say the same
 abbrev Alike : List (List ℕ) → ℕ → Limit → Limit → Type 0

@@ -1,10 +1,9 @@
 -- CONDITION 2 for any measure, from an opened state: after each pick the walk reports the length of the picks so far, its parts hold what
 -- document 01 says, and its counts keep within the bounds. Minimisation and maximisation, each once; the kit, what its tables tell and what
 -- passes are parameters. Assumes nothing.
-use mathlib.Core.Path.{_≡_, refl, sym, ap, _∙_, subst}
+use mathlib.Core.Path.{_≡_, sym, ap, _∙_, subst}
 use mathlib.Core.Logic.{_↔_, inl, inr}
 use mathlib.Core.Bool.{Bool, true, false, not}
-use mathlib.Core.Option.{Option}
 use mathlib.Core.List.{List}
 use Prim.Native.Nat.{ℕ, zero, suc, _+_, _-_, _*_, _≤_, _<_}
 use native.Mathlib.Omega.{arith}
@@ -13,16 +12,16 @@ use lib.ListN.{length}
 use Rattle.model.specs.Recording.{Recording, pickAt}
 use Rattle.model.specs.Length.{Upward, Downward}
 use Rattle.model.proofs.Logic.{eq-refl, T→≡, F→≡}
-use Rattle.measures.specs.Kit.{Kit, kit, widthOf, either}
+use Rattle.measures.specs.Kit.{Kit, kit, either}
 use Rattle.place.specs.Places.{Sound, fresh, charged}
-use Rattle.steps.specs.Walk.{State, state, minStep, maxStep, stepped, reported}
+use Rattle.steps.specs.Walk.{State, minStep, maxStep, stepped, reported}
 use Rattle.calls.specs.Calls.{needed}
 use Rattle.law.specs.Faithful.{Faithful, windowTable, window-tells}
 use Rattle.law.specs.Kits.{Tested}
 use Rattle.law.specs.MinWalk.{MinAnswer, Stands, min-stands, min-right, min-counts}
 use Rattle.lists.specs.Tab.{zeros}
 use Rattle.law.specs.Ladders.{holds, Laddered}
-use Rattle.law.specs.MaxWalk.{MaxAnswer, Lives, Ended, atEnd, Goes, max-goes, max-right, max-tests, max-comps}
+use Rattle.law.specs.MaxWalk.{MaxAnswer, atEnd, Goes, max-goes, max-right, max-tests, max-comps}
 use Rattle.law.specs.Runs.{Kept, walked, walked-kept, law-of}
 use Rattle.law.specs.Opened.{start, listed, opened-stands, opened-lives}
 
