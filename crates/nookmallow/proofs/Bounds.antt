@@ -1,0 +1,234 @@
+-- Every number that the calls answer fits a word of 32 bits, so none is cut short on its way to C. Assumes nothing.
+use mathlib.Core.Path.{_≡_, refl, sym, ap, ap₂, _∙_, subst}
+use mathlib.Core.Bool.{Bool, true, false, _&&_, not}
+use mathlib.Core.Option.{Option, none, some}
+use mathlib.Core.List.{List}
+use Prim.Native.Nat.{ℕ, zero, suc, _+_, _-_, _/_, _≤_, _<_, _^_, zero-le}
+use native.Mathlib.Nat.{lt-of-le-of-lt, le-refl}
+use native.Mathlib.Numerals.{add-one}
+use native.Mathlib.Omega.{arith}
+use lib.Dec.{T, eqb, eqb→eq, leb, ltb, lit<}
+use lib.ListN.{length}
+use borrow.Author.Tests.{leb-true}
+use Rattle.model.specs.declared.Refusal.{Refusal}
+use Rattle.model.specs.declared.Refusal.the-variants.{Boards, Measure, Picks, Room, Forbidden, Unlisted, Full, NoPick, NoLength, Shape, Command, Stopped, Operands, Unchanged, Trailing, BadPlace}
+use Rattle.model.specs.Refusals.{number}
+use Rattle.model.specs.Journey.{val}
+use Rattle.checks.specs.Lent.{lentPick}
+use Rattle.measures.specs.Kit.{Kit, kit, either}
+use Rattle.place.specs.declared.Place.{Place}
+use Rattle.place.specs.Places.{fresh, nowhere, charged, soundPlace, Sound}
+use Rattle.place.proofs.Laws.{sound-says, and-left, and-right}
+use Rattle.steps.specs.Walk.{State, state, kitOf, stepped, reported}
+use Rattle.steps.proofs.Ready.{Stepped, stepped-grown, sound-ready}
+use Rattle.calls.specs.Answers.{Handed, handed, Outcome, outcome}
+use Rattle.calls.specs.Calls.{openVerdict, openSays, openedArea, pickVerdict, pickState, pickSays, pickLeaves, reportSays, lengthSays, wholeVerdict, unions, stepsOf, wholeStart, wholeAfter, wholeReport, wholeSays}
+use Rattle.calls.specs.Fit.{Takes, Runs, Starts}
+use Rattle.calls.proofs.Verdicts.{open-sound, pick-sound, whole-sound, taken-state, refused-state, number-some}
+use Rattle.calls.proofs.Opened.{opened-length}
+use Rattle.steps.proofs.Frames.{either-ind}
+use Rattle.calls.proofs.Loops.{Along, along-start, along-turn, whole-starts, list-cost, length-unions}
+use Rattle.nookmallow.specs.declared.PlaceWords.{PlaceWords}
+use Rattle.nookmallow.specs.declared.HandedWords.{HandedWords}
+use Rattle.nookmallow.specs.Boundary.{flag, flags, placeOf, wordsOf, handedAs, handedWords, pickAnswers, pickKeeps, Narrow, NarrowAnswer}
+
+-- far below what a word holds
+pub small : {x : ℕ} → x ≤ 100000000 → x < 2 ^ 32
+small h = lt-of-le-of-lt h (lit< tt)
+
+pub number-small : (c : Refusal) → number c < 2 ^ 32
+number-small Boards = lit< tt
+number-small Measure = lit< tt
+number-small Picks = lit< tt
+number-small Room = lit< tt
+number-small Forbidden = lit< tt
+number-small Unlisted = lit< tt
+number-small Full = lit< tt
+number-small NoPick = lit< tt
+number-small NoLength = lit< tt
+number-small Shape = lit< tt
+number-small Command = lit< tt
+number-small Stopped = lit< tt
+number-small Operands = lit< tt
+number-small Unchanged = lit< tt
+number-small Trailing = lit< tt
+number-small BadPlace = lit< tt
+
+-- ---- opening
+
+fresh-narrow : (n measure limit : ℕ) → n ≤ 32 → measure ≤ 4 → limit ≤ 4096 → Narrow (fresh measure n limit)
+unfolding fresh
+fresh-narrow n measure limit a b c = record {
+  boards = small (omega arith);
+  measure = small (omega arith);
+  limit = small (omega arith);
+  taken = lit< tt;
+  start = lit< tt;
+  boundary = lit< tt;
+  compositions = lit< tt;
+  tests = lit< tt;
+}
+
+nowhere-narrow : Narrow nowhere
+unfolding nowhere
+nowhere-narrow = record {
+  boards = lit< tt;
+  measure = lit< tt;
+  limit = lit< tt;
+  taken = lit< tt;
+  start = lit< tt;
+  boundary = lit< tt;
+  compositions = lit< tt;
+  tests = lit< tt;
+}
+
+pub open-narrow : (n measure limit : ℕ) (footprint a : List ℕ) → Narrow (openSays n measure limit footprint a .place)
+unfolding openSays
+open-narrow n measure limit footprint a =
+    either-ind Narrow (eqb (openVerdict n measure limit footprint a) 0) (fresh measure n limit) nowhere
+    (λ t. let o = open-sound n measure limit footprint a (eqb→eq _ _ t) in fresh-narrow n measure limit (o .few) (o .measure-high) (o .cap))
+    (λ t. nowhere-narrow)
+
+-- ---- pick
+
+stepped-narrow : {p q : Place} → Sound p → p .taken .0 < p .limit → Stepped p q → Narrow q
+stepped-narrow s h t =
+    let l = s .limit-high in
+    let b = s .boards-high in
+    let k = s .measure-high in
+    let c = s .compositions-high in
+    let d = s .tests-high in
+    let e = t .taken in
+    let f = t .inside in
+    let g = t .bound in
+    let x = t .comps in
+    let y = t .tests in
+    record {
+      boards = subst (λ (z : ℕ). z < 2 ^ 32) (sym (t .boards)) (small (omega arith));
+      measure = subst (λ (z : ℕ). z < 2 ^ 32) (sym (t .measure)) (small (omega arith));
+      limit = subst (λ (z : ℕ). z < 2 ^ 32) (sym (t .limit)) (small (omega arith));
+      taken = small (omega arith);
+      start = small (omega arith);
+      boundary = small (omega arith);
+      compositions = small (omega arith);
+      tests = small (omega arith);
+    }
+
+pub pick-narrow : (p : Place) (a w : List ℕ) → pickVerdict p a w ≡ 0 → Narrow (pickSays p a w .place)
+pick-narrow p a w e =
+    let t = pick-sound p a w e in
+    subst (λ (x : State). Narrow (x .place)) (sym (taken-state p a w e))
+    (stepped-narrow (t .sound) (t .below) (stepped-grown p a w (sound-ready (t .sound) (t .room)) (t .below)))
+
+-- ---- length
+
+-- a length is at most one more than the picks
+reported-small : (p : Place) → p .taken .0 ≤ 4096 → p .compositions .0 ≤ 60000000 → p .tests .0 ≤ 60000000 → NarrowAnswer (reportSays (reported p) p)
+unfolding reported
+reported-small p h c t = by (p .passed) (not (eqb (p .measure) 1) && ltb 1 (p .start .0))
+  where
+    by : (x y : Bool) → NarrowAnswer (reportSays (either x (some (p .taken .0 + 1 - p .start .0)) (either y (some (p .taken .0 + 2 - p .start .0)) none)) p)
+    by true y = record { length = small (omega arith); compositions = small (omega arith); tests = small (omega arith) }
+    by false true = record { length = small (omega arith); compositions = small (omega arith); tests = small (omega arith) }
+    by false false = record { length = lit< tt; compositions = small (omega arith); tests = small (omega arith) }
+
+no-answer : (c : ℕ) → NarrowAnswer (outcome c 0 0 0)
+no-answer c = record { length = lit< tt; compositions = lit< tt; tests = lit< tt }
+
+pub length-narrow : (p : Place) → NarrowAnswer (lengthSays p)
+unfolding lengthSays
+length-narrow p = by (soundPlace p) refl
+  where
+    by : (x : Bool) → soundPlace p ≡ x → NarrowAnswer (either (not x) (outcome 16 0 0 0) (either (eqb (p .taken .0) 0) (outcome 8 0 0 0) (reportSays (reported p) p)))
+    by false e = no-answer 16
+    by true e =
+        let s = sound-says p e in
+        let m = s .taken-high in
+        let l = s .limit-high in
+        let c = s .compositions-high in
+        let t = s .tests-high in
+        either-ind NarrowAnswer (eqb (p .taken .0) 0) (outcome 8 0 0 0) (reportSays (reported p) p) (λ z. no-answer 8)
+        (λ z. reported-small p (omega arith) (omega arith) (omega arith))
+
+-- ---- whole run
+
+module _ (n measure m : ℕ) (w a : List ℕ) (r : Runs n measure m w a) where
+  abbrev start : State
+  start = wholeStart n measure m w a
+
+  starts : Starts (start .place) m w (start .area)
+  unfolding wholeStart charged fresh
+  starts = whole-starts n measure m _ w a r (list-cost measure m (r .cap)) refl (opened-length n measure m (unions n w m) a (r .room) (λ e. sym (length-unions n w m)))
+
+  abbrev after : ℕ → State
+  after k = stepsOf (kitOf (start .place)) (start .place .boards) w k start
+
+  -- the steps keep what `whole_steps` keeps
+  along : (k : ℕ) → k ≤ m → Along (start .place) w (start .area) m k (after k .place) (after k .area)
+  unfolding stepsOf
+  along zero h = along-start _ _ _ _ starts
+  along (suc k) h =
+      let g = along k (omega arith) in
+      let e : kitOf (start .place) ≡ kitOf (after k .place) = sym (ap₂ kit (g .measure) (g .boards)) in
+      subst (λ (i : ℕ). Along (start .place) w (start .area) m i (after (suc k) .place) (after (suc k) .area)) (add-one k)
+      (along-turn g h (ap (λ (K : Kit). stepped K (lentPick (start .place .boards) w k) (after k) .place) e, ap (λ (K : Kit). stepped K (lentPick (start .place .boards) w k) (after k) .area) e))
+
+  run-narrow : NarrowAnswer (wholeReport n measure m w a)
+  unfolding wholeReport wholeAfter wholeStart charged fresh
+  run-narrow =
+      let g = along m (le-refl m) in
+      let t = g .taken in
+      let c = g .comps in
+      let y = g .tests in
+      let l = r .cap in
+      reported-small (after m .place) (omega arith) (omega arith) (omega arith)
+
+pub whole-narrow : (n measure : ℕ) (w a : List ℕ) → NarrowAnswer (wholeSays n measure w a)
+unfolding wholeSays
+whole-narrow n measure w a =
+    either-ind NarrowAnswer (eqb (wholeVerdict n measure w a) 0) (wholeReport n measure (length w / n) w a) (outcome (wholeVerdict n measure w a) 0 0 0)
+    (λ t. run-narrow n measure (length w / n) w a (whole-sound n measure w a (eqb→eq _ _ t)))
+    (λ t. no-answer _)
+
+-- ---- places as words
+
+flag-back : (x : ℕ) → flag x ≡ true → val (eqb x 1) ≡ x
+flag-back zero e = refl
+flag-back (suc zero) e = refl
+flag-back (suc (suc x)) e = let h = leb-true (suc (suc x)) 1 e in absurd (omega arith)
+
+-- ten words are those of the place they stand for
+pub words-back : (p : PlaceWords) → flags p ≡ true → wordsOf (placeOf p) ≡ p
+unfolding placeOf wordsOf
+words-back p e = simp (flag-back (p .failed) (and-left _ _ e), flag-back (p .passed) (and-right (flag (p .failed)) _ e))
+
+-- ---- answers as words, from what a call answered
+
+pub handed-is : {c x : ℕ} {p : Place} {r : PlaceWords} {h : Handed} → x ≡ c → r ≡ wordsOf p → handed c p ≡ h → handedAs x r ≡ handedWords h
+handed-is e f g = rw (e, f) (ap handedWords g)
+
+-- the flags are flags: the answer is that of the call, on the place that the words stand for
+pub picked-is : (p : PlaceWords) (a w : List ℕ) {q : Place} {r : HandedWords} → flags p ≡ true → q ≡ placeOf p → r ≡ handedWords (pickSays q a w) → r ≡ pickAnswers p a w
+unfolding pickAnswers
+picked-is p a w e f g = rw e (g ∙ ap (λ (x : Place). handedWords (pickSays x a w)) f)
+
+pub kept-is : (p : PlaceWords) (a w : List ℕ) {q : Place} {b : List ℕ} → flags p ≡ true → q ≡ placeOf p → b ≡ pickLeaves q a w → b ≡ pickKeeps p a w
+unfolding pickKeeps
+kept-is p a w e f g = rw e (g ∙ ap (λ (x : Place). pickLeaves x a w) f)
+
+-- a refused pick: the ten words are handed back
+pub refused-is : (p : PlaceWords) (a w : List ℕ) {x : ℕ} (c : Refusal) {q o : Place} → flags p ≡ true → q ≡ placeOf p → x ≡ number c → handed (number c) o ≡ pickSays q a w
+    → handedAs x p ≡ pickAnswers p a w
+refused-is p a w c {q} f d e g =
+    let v : number c ≡ pickVerdict q a w = ap (λ (h : Handed). h .refusal) g in
+    let s = refused-state q a w (ap (λ (k : ℕ). eqb k 0) (sym v) ∙ number-some c) in
+    picked-is p a w f d (ap₂ handedAs (e ∙ v) (sym (words-back p f) ∙ ap wordsOf (sym d) ∙ ap (λ (st : State). wordsOf (st .place)) (sym s)))
+
+-- a flag is none
+pub flag-refused : (p : PlaceWords) (a w : List ℕ) → flags p ≡ false → handedAs 16 p ≡ pickAnswers p a w
+unfolding pickAnswers
+flag-refused p a w e = rw e
+
+pub flag-kept : (p : PlaceWords) (a w : List ℕ) → flags p ≡ false → a ≡ pickKeeps p a w
+unfolding pickKeeps
+flag-kept p a w e = rw e

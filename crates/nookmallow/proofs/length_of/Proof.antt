@@ -1,0 +1,40 @@
+-- `nookmallow::length_of` meets its contract.
+-- Assumes nothing.
+use mathlib.Core.Path.{_≡_, sym, ap, _∙_, subst}
+use borrow.Author.Tests.{not-true, not-false}
+use Rattle.nookmallow.specs.Boundary.{answerWords, lengthAnswers, NarrowAnswer}
+use Rattle.nookmallow.proofs.Bounds.{length-narrow}
+use borrow.Author.Needs.{needs}
+use Rattle.nookmallow.proofs.length_of.Statement.{statement}
+use Rattle.nookmallow.proofs.length_of.Tie as tie
+
+are-flags-requires : tie.Need-are-flags-requires
+are-flags-requires c κs = search needs
+
+returns : tie.Need-returns
+unfolding lengthAnswers
+returns c = simp (sym (c .before .are-flags .ensures) ∙ not-true _ (c .if1 .taken))
+
+place-of-requires : tie.Need-place-of-requires
+place-of-requires c κs = search needs
+
+length-requires : tie.Need-length-requires
+length-requires c κs = search needs
+
+answer-words-requires : tie.Need-answer-words-requires
+answer-words-requires c κs = subst NarrowAnswer (sym (c .length .ensures .0)) (length-narrow _)
+
+returns-2 : tie.Need-returns-2
+unfolding lengthAnswers
+returns-2 c = c .answer-words .ensures ∙ ap answerWords (c .before .length .ensures .0 ∙ simp (c .before .before .place-of .ensures, sym (c .before .before .before .before .are-flags .ensures) ∙ not-false _ (c .before .before .before .if1 .left)))
+
+pub length-of-spec : {M : Type 1} → statement M
+length-of-spec =
+    tie.close
+    (tie.spec
+    are-flags-requires
+    returns
+    place-of-requires
+    length-requires
+    answer-words-requires
+    returns-2)

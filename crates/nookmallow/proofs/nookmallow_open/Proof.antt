@@ -1,0 +1,54 @@
+-- `nookmallow::nookmallow_open` meets its contract.
+-- Assumes nothing.
+use mathlib.Core.Path.{_≡_, refl, sym, ap, _∙_, subst}
+use Rattle.calls.specs.Answers.{Handed, openingSays}
+use Rattle.nookmallow.specs.Boundary.{Narrow}
+use Rattle.nookmallow.proofs.Bounds.{open-narrow, handed-is}
+use borrow.Author.Needs.{needs}
+use Rattle.nookmallow.proofs.nookmallow_open.Statement.{statement}
+use Rattle.nookmallow.proofs.nookmallow_open.Tie as tie
+
+open-requires : tie.Need-open-requires
+open-requires c κs = search needs
+
+enum-known-p : tie.Need-enum-known-p
+enum-known-p c = search needs
+
+words-of-requires : tie.Need-words-of-requires
+words-of-requires c κs = subst Narrow (sym (ap (λ (h : Handed). h .place) (sym (ap openingSays (c .before .p .given .1)) ∙ c .before .before .before .before .before .«open» .ensures .0))) (open-narrow _ _ _ _ _)
+
+enum-known-p-2 : tie.Need-enum-known-p-2
+enum-known-p-2 c = search needs
+
+cause-word-requires : tie.Need-cause-word-requires
+cause-word-requires c κs = search needs
+
+words-of-requires-2 : tie.Need-words-of-requires-2
+words-of-requires-2 c κs = subst Narrow (sym (ap (λ (h : Handed). h .place) (sym (ap openingSays (c .before .before .p2 .given .1)) ∙ c .before .before .before .before .before .before .«open» .ensures .0))) (open-narrow _ _ _ _ _)
+
+same-length : tie.Need-same-length
+same-length c = search needs
+
+returns : tie.Need-returns
+returns c = (handed-is refl (c .words-of .ensures) (sym (ap openingSays (c .before .before .p .given .1)) ∙ c .before .before .before .before .before .before .«open» .ensures .0), c .before .before .before .before .before .before .«open» .ensures .1)
+
+same-length-2 : tie.Need-same-length-2
+same-length-2 c = search needs
+
+returns-2 : tie.Need-returns-2
+returns-2 c = (handed-is (c .before .cause-word .ensures) (c .words-of2 .ensures) (sym (ap openingSays (c .before .before .before .p2 .given .1)) ∙ c .before .before .before .before .before .before .before .«open» .ensures .0), c .before .before .before .before .before .before .before .«open» .ensures .1)
+
+pub nookmallow-open-spec : {M : Type 1} → statement M
+nookmallow-open-spec =
+    tie.close
+    (tie.spec
+    open-requires
+    enum-known-p
+    words-of-requires
+    enum-known-p-2
+    cause-word-requires
+    words-of-requires-2
+    same-length
+    returns
+    same-length-2
+    returns-2)

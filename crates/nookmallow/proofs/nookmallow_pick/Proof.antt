@@ -1,0 +1,78 @@
+-- `nookmallow::nookmallow_pick` meets its contract.
+-- Assumes nothing.
+use mathlib.Core.Path.{_≡_, refl, sym, ap, _∙_, subst}
+use borrow.Author.Tests.{not-true, not-false}
+use Rattle.calls.specs.Answers.{Handed, takingSays}
+use Rattle.nookmallow.specs.Boundary.{Narrow}
+use Rattle.nookmallow.proofs.Bounds.{pick-narrow, handed-is, picked-is, kept-is, refused-is, flag-refused, flag-kept}
+use borrow.Author.Needs.{needs}
+use Rattle.nookmallow.proofs.nookmallow_pick.Statement.{statement}
+use Rattle.nookmallow.proofs.nookmallow_pick.Tie as tie
+
+are-flags-requires : tie.Need-are-flags-requires
+are-flags-requires c κs = search needs
+
+returns : tie.Need-returns
+returns c = (flag-refused _ _ _ (sym (c .before .are-flags .ensures) ∙ not-true _ (c .if1 .taken)), flag-kept _ _ _ (sym (c .before .are-flags .ensures) ∙ not-true _ (c .if1 .taken)))
+
+place-of-requires : tie.Need-place-of-requires
+place-of-requires c κs = search needs
+
+pick-requires : tie.Need-pick-requires
+pick-requires c κs = search needs
+
+enum-known-q : tie.Need-enum-known-q
+enum-known-q c = search needs
+
+words-of-requires : tie.Need-words-of-requires
+words-of-requires c κs = let e = sym (ap takingSays (c .before .q .given .1)) ∙ c .before .before .before .before .before .pick .ensures .0 in subst Narrow (sym (ap (λ (h : Handed). h .place) e)) (pick-narrow _ _ _ (sym (ap (λ (h : Handed). h .refusal) e)))
+
+enum-known-c : tie.Need-enum-known-c
+enum-known-c c = search needs
+
+cause-word-requires : tie.Need-cause-word-requires
+cause-word-requires c κs = search needs
+
+same-length : tie.Need-same-length
+same-length c = search needs
+
+returns-2 : tie.Need-returns-2
+returns-2 c =
+    let c6 = c .before .before .before .before .before .before in
+    let c13 = c6 .before .before .before .before .before .before .before in
+    let f = sym (c6 .before .before .before .before .are-flags .ensures) ∙ not-false _ (c6 .before .before .before .if1 .left) in
+    let e = c6 .before .before .place-of .ensures in
+    let a = c13 .args .area .now in
+    let w = c13 .args .words .now in
+    (picked-is _ a w f e (handed-is refl (c .words-of .ensures) (sym (ap takingSays (c .before .before .q .given .1)) ∙ c6 .pick .ensures .0)), kept-is _ a w f e (c6 .pick .ensures .1))
+
+same-length-2 : tie.Need-same-length-2
+same-length-2 c = search needs
+
+returns-3 : tie.Need-returns-3
+returns-3 c =
+    let c6 = c .before .before .before .before .before .before in
+    let c13 = c6 .before .before .before .before .before .before .before in
+    let f = sym (c6 .before .before .before .before .are-flags .ensures) ∙ not-false _ (c6 .before .before .before .if1 .left) in
+    let e = c6 .before .before .place-of .ensures in
+    let a = c13 .args .area .now in
+    let w = c13 .args .words .now in
+    let g = c .before .before .c .given in
+    (refused-is _ a w (g .0 .1 .0) f e (c .cause-word .ensures) (sym (ap takingSays (g .1)) ∙ c6 .pick .ensures .0), kept-is _ a w f e (c6 .pick .ensures .1))
+
+pub nookmallow-pick-spec : {M : Type 1} → statement M
+nookmallow-pick-spec =
+    tie.close
+    (tie.spec
+    are-flags-requires
+    returns
+    place-of-requires
+    pick-requires
+    enum-known-q
+    words-of-requires
+    enum-known-c
+    cause-word-requires
+    same-length
+    returns-2
+    same-length-2
+    returns-3)

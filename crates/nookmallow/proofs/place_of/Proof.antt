@@ -1,0 +1,48 @@
+-- `nookmallow::place_of` meets its contract.
+-- Assumes nothing.
+use Rattle.nookmallow.specs.Boundary.{placeOf}
+use borrow.Author.Needs.{needs}
+use Rattle.nookmallow.proofs.place_of.Statement.{statement}
+use Rattle.nookmallow.proofs.place_of.Tie as tie
+
+wide-requires : tie.Need-wide-requires
+wide-requires c κs = search needs
+
+wide-requires-2 : tie.Need-wide-requires-2
+wide-requires-2 c κs = search needs
+
+wide-requires-3 : tie.Need-wide-requires-3
+wide-requires-3 c κs = search needs
+
+wide-requires-4 : tie.Need-wide-requires-4
+wide-requires-4 c κs = search needs
+
+wide-requires-5 : tie.Need-wide-requires-5
+wide-requires-5 c κs = search needs
+
+wide-requires-6 : tie.Need-wide-requires-6
+wide-requires-6 c κs = search needs
+
+wide-requires-7 : tie.Need-wide-requires-7
+wide-requires-7 c κs = search needs
+
+wide-requires-8 : tie.Need-wide-requires-8
+wide-requires-8 c κs = search needs
+
+returns : tie.Need-returns
+unfolding placeOf
+returns c = simp (c .before .before .before .before .before .before .before .before .before .wide .ensures, c .before .before .before .before .before .before .before .before .wide2 .ensures, c .before .before .before .before .before .before .before .wide3 .ensures, c .before .before .before .before .before .before .wide4 .ensures, c .before .before .before .before .before .wide5 .ensures, c .before .before .before .before .wide6 .ensures, c .before .wide7 .ensures, c .wide8 .ensures)
+
+pub place-of-spec : {M : Type 1} → statement M
+place-of-spec =
+    tie.close
+    (tie.spec
+    wide-requires
+    wide-requires-2
+    wide-requires-3
+    wide-requires-4
+    wide-requires-5
+    wide-requires-6
+    wide-requires-7
+    wide-requires-8
+    returns)
