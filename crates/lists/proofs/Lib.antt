@@ -1,2 +1,3 @@
 -- Laws of lists made by index.
 pub mod Tab
+pub mod Zeros

@@ -22,7 +22,7 @@ pub fn compose(out: &mut [u32], left: &[u32], right: &[u32], measure: usize, n: 
     ensures { λ _. ⌜ now (out .exit) ≡ joinOf measure n (now (left .entry)) (now (right .entry)) ⌝ }
 {
     if measure == 4 {
-        times::compose(out, left, right, n);
+        folds::compose(out, left, right, n);
         return;
     }
     if measure == 3 {

@@ -8,6 +8,5 @@ pub mod Others
 pub mod Admit
 pub mod Along
 pub mod Written
-pub mod Zeros
 pub mod Bits
 pub mod Sound

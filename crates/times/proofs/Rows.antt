@@ -13,7 +13,7 @@ use borrow.Author.Tests.{eqb-true, eqb-false, ne-eqb}
 use Rattle.lists.specs.Tab.{tab}
 use Rattle.lists.proofs.Tab.{length-tab, getD-tab, tab-ext}
 use Rattle.times.specs.Times.{rows, sooner, later, after, apart, choose, arr, inTime}
-use Rattle.times.specs.Steps.{each, soonerBy, laterBy}
+use Rattle.times.proofs.Cells.{length-rows}
 
 -- ---- places
 
@@ -34,14 +34,6 @@ pub from-start : (m : ℕ) (xs : List ℕ) → take (length xs - m) (drop m xs) 
 from-start m xs = take-all (length xs - m) (drop m xs) (le-of-eq (length-drop m xs))
 
 -- ---- rows
-
-pub length-rows : (n : ℕ) (f : ℕ → ℕ → ℕ) (k : ℕ) → length (rows n f k) ≡ k * n
-unfolding rows
-length-rows n f zero = sym (zero-mul n)
-length-rows n f (suc k) =
-    let e = length-rows n f k in
-    let l = length-tab (f k) n in
-    length-append (rows n f k) (tab (f k) n) ∙ omega (arith, suc-mul k n)
 
 -- The invariant of a loop that writes n rows of n words: t is f's rows below u, and t₀'s words from there on.
 -- A proof's `Inv-loop` is a `Rowed`; `rowed-start`, `rowed-turn` and `rowed-all` answer its needs.
@@ -98,25 +90,6 @@ pub row-same : (f : ℕ → ℕ) (n : ℕ) (xs : List ℕ) → n ≡ length xs �
 row-same f n xs e h =
     ext-getD 0 xs (tab f n) (sym e ∙ sym (length-tab f n)) (λ v l. h v ∙ sym (getD-tab f n v (omega (arith, e))))
 
--- op of the rows at `at`, as they are lent
-pub row-first : (op : ℕ → ℕ → ℕ) (g : ℕ → ℕ) (n at : ℕ) (s t : List ℕ)
-    → ((v : ℕ) → op (getD s (at + v) 0) (getD t (at + v) 0) ≡ g v)
-    → tab (each op (take (at + n - at) (drop at s)) (take (at + n - at) (drop at t))) n ≡ tab g n
-row-first op g n at s t h =
-    rw add-sub-cancel-left
-    (tab-ext (each op (take n (drop at s)) (take n (drop at t))) g n
-    (λ v l. simp (getD-take n (drop at s) v 0 l, getD-take n (drop at t) v 0 l, getD-drop) (h v)))
-
--- op of a row made and the row at `at`
-pub row-next : (op : ℕ → ℕ → ℕ) (f g : ℕ → ℕ) (n at : ℕ) (xs t : List ℕ)
-    → xs ≡ tab f n
-    → ((v : ℕ) → op (f v) (getD t (at + v) 0) ≡ g v)
-    → tab (each op xs (take (at + n - at) (drop at t))) n ≡ tab g n
-row-next op f g n at xs t e h =
-    rw (add-sub-cancel-left, e)
-    (tab-ext (each op (tab f n) (take n (drop at t))) g n
-    (λ v l. simp (getD-tab f n v l, getD-take n (drop at t) v 0 l, getD-drop) (h v)))
-
 -- a word of a row whose own entry was set to 0
 row-word : (f : ℕ → ℕ) (n u v : ℕ) (b : Bool) → eqb u v ≡ b → u < n → v < n → getD (set (tab f n) u 0) v 0 ≡ choose b 0 (f v)
 row-word f n u v true e h l = rw (sym (eqb-true u v e)) (getD-set-same (tab f n) u 0 0 (omega (arith, length-tab f n)))
@@ -130,31 +103,6 @@ row-last f g n u xs e h q =
     rw e
     (ext-getD 0 (set (tab f n) u 0) (tab g n) (k ∙ sym (length-tab g n))
     (λ v l. row-word f n u v (eqb u v) refl h (omega arith) ∙ q v ∙ sym (getD-tab g n v (omega arith))))
-
--- ---- times, where 0 is none
-
-pub sooner-none : (x y : ℕ) → x ≡ soonerBy 0 x y
-unfolding sooner after
-sooner-none zero y = refl
-sooner-none (suc x) y = rw eqb·suc-zero
-
-after-none : (y : ℕ) → after y 0 ≡ 0
-unfolding after
-after-none zero = refl
-after-none (suc y) = rw eqb·suc-zero
-
-later-zero : (x : ℕ) → later x 0 ≡ x
-unfolding later
-later-zero zero = refl
-later-zero (suc x) = rw leb·suc-zero
-
-pub later-none : (x y : ℕ) → x ≡ laterBy 0 x y
-later-none x y = rw (after-none, later-zero)
-
--- a board that is reached
-pub after-some : {d : ℕ} → (d ≡ 0 → ⊥) → (y : ℕ) → after d y ≡ y
-unfolding after
-after-some {d} h y = simp (ne-eqb d 0 h)
 
 -- ---- test
 

@@ -1,4 +1,3 @@
 -- Definitions that the contracts of `times` cite, and what a table of times tells.
 pub mod Times
-pub mod Steps
 pub mod Tells

@@ -7,7 +7,7 @@ use Rattle.lists.proofs.Tab.{length-zeros}
 use Rattle.recording.specs.Format.{recordingAt}
 use Rattle.recording.specs.Answers.{partOf}
 use Rattle.recording.proofs.Admit.{headed}
-use Rattle.recording.proofs.Zeros.{lent, lent-length}
+use Rattle.lists.proofs.Zeros.{lent, lent-length}
 use Rattle.recording.proofs.Others.{opened-other}
 use borrow.Author.Needs.{needs}
 use Rattle.recording.proofs.examine.Statement.{statement}
@@ -44,13 +44,13 @@ part-links-end c = let k = headed _ _ _ _ _ (sym (c .before .before .before .bef
 scan-requires : tie.Need-scan-requires
 scan-requires c κs =
     let k = headed _ _ _ _ _ (sym (c .before .before .before .before .before .head-at .ensures) ∙ c .before .before .before .head .given .1) in
-    (lent-length _ _ (c .before .no-words .ensures) (k .high), k .high)
+    (lent-length _ _ _ (c .before .no-words .ensures) (k .high), k .high)
 
 returns-2 : tie.Need-returns-2
 unfolding recordingAt
 returns-2 c = let e = sym (c .before .before .before .before .before .before .before .head-at .ensures) ∙ c .before .before .before .before .before .head .given .1 in
     let k = headed _ _ _ _ _ e in
-    simp e (c .before .scan .ensures ∙ simp (lent _ _ (c .before .before .before .no-words .ensures) (k .high)))
+    simp e (c .before .scan .ensures ∙ simp (lent _ _ _ (c .before .before .before .no-words .ensures) (k .high)))
 
 pub examine-spec : {M : Type 1} → statement M
 examine-spec =

@@ -2,7 +2,7 @@
 -- Assumes nothing.
 use mathlib.Core.Path.{_∙_}
 use borrow.Author.Needs.{needs}
-use Rattle.recording.proofs.Zeros.{lent, lent-length}
+use Rattle.lists.proofs.Zeros.{lent, lent-length}
 use Rattle.recording.proofs.write.Statement.{statement}
 use Rattle.recording.proofs.write.Tie as tie
 
@@ -24,14 +24,14 @@ part-links-end c = search needs
 store-requires : tie.Need-store-requires
 store-requires c κs = let p = c .before .before .before .before .before .pre in
     let z = c .before .before .no-words .ensures in
-    (lent-length _ _ z (p .1), p .1, p .2, p .3, rw (lent _ _ z (p .1)) (p .4))
+    (lent-length _ _ _ z (p .1), p .1, p .2, p .3, rw (lent _ _ _ z (p .1)) (p .4))
 
 same-length : tie.Need-same-length
 same-length c = search needs
 
 returns : tie.Need-returns
 returns c = let p = c .before .before .before .before .before .before .before .before .before .pre in
-    c .before .before .before .store .ensures ∙ simp (lent _ _ (c .before .before .before .before .before .before .no-words .ensures) (p .1))
+    c .before .before .before .store .ensures ∙ simp (lent _ _ _ (c .before .before .before .before .before .before .no-words .ensures) (p .1))
 
 pub write-spec : {M : Type 1} → statement M
 write-spec =

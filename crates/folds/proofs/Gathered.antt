@@ -1,0 +1,234 @@
+-- Folds: the loops that make them, and that a row with its fold is the composition. Assumes nothing.
+use mathlib.Core.Path.{_≡_, refl, sym, ap, ap₂, _∙_, subst}
+use mathlib.Core.Bool.{Bool, true, false, not, _&&_, _||_}
+use mathlib.Core.List.{List, _++_}
+use Prim.Native.Nat.{ℕ, zero, suc, _+_, _-_, _*_, _^_, _≤_, _<_}
+use native.Mathlib.Numerals.{add-one}
+use native.Mathlib.Nat.{add-sub-cancel-left, sub-zero, suc-mul, mul-le-mul, mul-le-mul-right, le-refl, eq-or-lt-of-le, le-of-suc-le-suc}
+use mathlib.Core.Logic.{⊎-elim}
+use borrow.Author.Tests.{eq-eqb, ne-eqb, eqb-true, eqb-false}
+use native.Mathlib.Omega.{arith}
+use lib.Bits.{bitAnd, bitOr}
+use lib.Dec.{eqb, ltb}
+use lib.ListN.{length, getD, take, drop, List·getD-append}
+use lib.Seq.{ext-getD, take-at, getD-take, getD-drop}
+use Rattle.model.specs.Recording.{bit}
+use Rattle.lists.specs.Tab.{tab, zeros, padded, kept}
+use Rattle.lists.proofs.Tab.{length-tab, getD-tab, tab-ext, tab-zero, take-padded}
+use Rattle.times.specs.Times.{cell, rows, choose, sooner, later, after, apart, arriveBy, arrival, arrivals, departBy, departure, departures}
+use Rattle.times.proofs.Rows.{row-le, part-length, Rowed}
+use Rattle.times.proofs.Cells.{length-rows, cell-rows}
+use Rattle.folds.specs.Folds.{each, better, betterIf, crossBy, crossed, someOf, setOf, gather, foldOf, joinedRow, Shared}
+use Rattle.folds.proofs.Sets.{row-cell, some-none, bit-set}
+use Rattle.folds.proofs.Better.{better-none, better-assoc, better-comm, better-self}
+
+-- ---- the loops
+
+-- op of a row made and the row at `at`
+row-next : (op : ℕ → ℕ → ℕ) (f g : ℕ → ℕ) (n at : ℕ) (xs t : List ℕ)
+    → xs ≡ tab f n
+    → ((v : ℕ) → op (f v) (getD t (at + v) 0) ≡ g v)
+    → tab (each op xs (take (at + n - at) (drop at t))) n ≡ tab g n
+row-next op f g n at xs t e h =
+    rw (add-sub-cancel-left, e)
+    (tab-ext (each op (tab f n) (take n (drop at t))) g n
+    (λ v l. simp (getD-tab f n v l, getD-take n (drop at t) v 0 l, getD-drop) (h v)))
+
+pub gather-none : (late : Bool) (n : ℕ) (t : List ℕ) (set : ℕ) → zeros n ≡ tab (gather late n t set 0) n
+unfolding gather
+gather-none late n t set = sym (tab-zero n) ∙ tab-ext _ _ n (λ v h. refl)
+
+-- a turn: row k is lent and taken in, where the set has k
+pub gather-next : (late : Bool) (n : ℕ) (t : List ℕ) (set k : ℕ) (xs : List ℕ) {on : Bool} → on ≡ bit set k → xs ≡ tab (gather late n t set k) n
+    → tab (each (betterIf late on) xs (take (k * n + n - k * n) (drop (k * n) t))) n ≡ tab (gather late n t set (k + 1)) n
+unfolding gather
+gather-next late n t set k xs {on} q e =
+    row-next (betterIf late on) (gather late n t set k) (gather late n t set (k + 1)) n (k * n) xs t e (λ v. rw (add-one k, q))
+
+-- a row with its fold, as they are lent
+pub joined-lent : (late : Bool) (n u : ℕ) (s f : List ℕ)
+    → tab (joinedRow late (λ v. getD (take (u * n + n - u * n) (drop (u * n) s)) v 0) (λ v. getD (take (u * n + n - u * n) (drop (u * n) f)) v 0) u) n
+    ≡ tab (joinedRow late (cell n s u) (cell n f u) u) n
+joined-lent late n u s f = tab-ext _ _ n (λ v h. ap₂ (λ (x y : ℕ). apart u v (better late x y)) (row-cell n u s v h) (row-cell n u f v h))
+
+-- ---- rows of folds
+
+-- a row that is lent, by its words
+pub lent-row : (n u : ℕ) (xs : List ℕ) (g : ℕ → ℕ) → u * n + n ≤ length xs → ((v : ℕ) → v < n → cell n xs u v ≡ g v)
+    → take (u * n + n - u * n) (drop (u * n) xs) ≡ tab g n
+lent-row n u xs g h e =
+    let l = part-length n (u * n) xs h in
+    ext-getD 0 (take (u * n + n - u * n) (drop (u * n) xs)) (tab g n) (sym l ∙ sym (length-tab g n))
+    (λ v b. let k : v < n = omega arith in row-cell n u xs v k ∙ e v k ∙ sym (getD-tab g n v k))
+
+-- the fold of an earlier row with the same set
+pub same-fold : (late : Bool) (n : ℕ) (t sets : List ℕ) (u : ℕ) (folds : List ℕ) (k : ℕ) → Shared late n t sets u folds → k < u → getD sets k 0 ≡ getD sets u 0
+    → take (k * n + n - k * n) (drop (k * n) folds) ≡ tab (foldOf late n t sets u) n
+same-fold late n t sets u folds k s h e =
+    let b : k < n = omega (arith, s .below) in
+    lent-row n k folds _ (omega (arith, row-le n b, s .room)) (λ v l. s .made k v h l ∙ ap (λ (x : ℕ). gather late n t x n v) e)
+
+-- a fold in the first n words of a local array
+pub new-fold : (n : ℕ) (f : ℕ → ℕ) (x r : List ℕ) → r ≡ zeros 32 → x ≡ tab f n → x ++ drop (n - 0) r ≡ padded 32 (tab f n)
+unfolding padded
+new-fold n f x r e q = ap₂ (λ (a b : List ℕ). a ++ b) q (ap₂ drop (sub-zero n ∙ sym (length-tab f n)) e)
+
+-- and as it is lent
+pub fold-lent : (n : ℕ) (f : ℕ → ℕ) (r : List ℕ) → r ≡ padded 32 (tab f n) → take (n - 0) r ≡ tab f n
+fold-lent n f r e = ap₂ take (sub-zero n) e ∙ take-padded 32 n (tab f n) (length-tab f n)
+
+-- the folds below u are made
+pub shared : {late : Bool} {n : ℕ} {t sets folds₀ folds : List ℕ} {u : ℕ} → n ≤ 32 → n ≤ length sets → n * n ≤ length t → u < n
+    → Rowed n (foldOf late n t sets) folds₀ folds u → Shared late n t sets u folds
+shared {late} {n} {t} {sets} {folds₀} {folds} {u} few words table below m = record {
+  few = few;
+  below = below;
+  words = words;
+  table = table;
+  room = omega (arith, m .long);
+  made = λ k v h l. rw (m .made)
+      (List·getD-append (rows n (foldOf late n t sets) u) (drop (u * n) folds₀) 0 (k * n + v)
+      (omega (arith, length-rows n (foldOf late n t sets) u, mul-le-mul-right n h, suc-mul k n)) ∙ cell-rows n (foldOf late n t sets) u k v h l);
+}
+
+-- ---- a row with its fold is the composition
+
+module _ (late : Bool) (n : ℕ) (s t : List ℕ) (u v : ℕ) (hu : u < n) (hv : v < n) where
+  abbrev set : ℕ
+  set = setOf (cell n s u) n (someOf n t) u
+
+  -- over the first k boards, as the definition goes
+  over : ℕ → ℕ
+  over zero = 0
+  over (suc k) = better late (over k) (after (cell n s u k) (cell n t k v))
+
+  cross-over : (k : ℕ) → crossBy late n s t k u v ≡ better late (better late (cell n s u v) (cell n t u v)) (over k)
+  unfolding crossBy over
+  cross-over zero = sym (better-none late _)
+  cross-over (suc k) = ap (λ (x : ℕ). better late x (after (cell n s u k) (cell n t k v))) (cross-over k) ∙ better-assoc late _ _ _
+
+  -- rows without a time do not matter
+  kept-some : (x : Bool) (k : ℕ) → k < n → kept (x && bit (someOf n t) k) (cell n t k v) ≡ kept x (cell n t k v)
+  kept-some x k h = by x (bit (someOf n t) k) refl
+    where
+      by : (x b : Bool) → bit (someOf n t) k ≡ b → kept (x && b) (cell n t k v) ≡ kept x (cell n t k v)
+      by true true e = refl
+      by true false e = sym (some-none n t k v h hv e)
+      by false b e = refl
+
+  -- what row k gives
+  gives : (k : ℕ) → k < n → kept (bit set k) (cell n t k v) ≡ kept (not (eqb (cell n s u k) 0) || eqb u k) (cell n t k v)
+  gives k h = ap (λ (b : Bool). kept b (cell n t k v)) (bit-set (cell n s u) n (someOf n t) u k h) ∙ kept-some (not (eqb (cell n s u k) 0) || eqb u k) k h
+
+  gives-after : (k : ℕ) → k < n → eqb u k ≡ false → kept (bit set k) (cell n t k v) ≡ after (cell n s u k) (cell n t k v)
+  unfolding after
+  gives-after k h e = gives k h ∙ rw e (by (eqb (cell n s u k) 0))
+    where
+      by : (b : Bool) → kept (not b || false) (cell n t k v) ≡ choose b 0 (cell n t k v)
+      by true = refl
+      by false = refl
+
+  gives-own : kept (bit set u) (cell n t u v) ≡ cell n t u v
+  gives-own = gives u hu ∙ rw (eq-eqb u u refl) (by (not (eqb (cell n s u u) 0)))
+    where
+      by : (b : Bool) → kept (b || true) (cell n t u v) ≡ cell n t u v
+      by true = refl
+      by false = refl
+
+  -- the row of u itself is taken in once or twice: that is the same
+  own-twice : (x : ℕ) → better late x (cell n t u v) ≡ better late (cell n t u v) (better late x (after (cell n s u u) (cell n t u v)))
+  unfolding after
+  own-twice x = by (eqb (cell n s u u) 0)
+    where
+      by : (b : Bool) → better late x (cell n t u v) ≡ better late (cell n t u v) (better late x (choose b 0 (cell n t u v)))
+      by true = better-comm late x _ ∙ ap (better late (cell n t u v)) (sym (better-none late x))
+      by false =
+          ap (better late x) (sym (better-self late _)) ∙ sym (better-assoc late x _ _)
+          ∙ better-comm late (better late x (cell n t u v)) _
+
+  -- before the row of u
+  gather-before : (k : ℕ) → k ≤ u → gather late n t set k v ≡ over k
+  unfolding gather over
+  gather-before zero h = refl
+  gather-before (suc k) h = ap₂ (better late) (gather-before k (omega arith)) (gives-after k (omega arith) (ne-eqb u k (omega arith)))
+
+  -- from there on
+  gather-from : (k : ℕ) → u < k → k ≤ n → gather late n t set k v ≡ better late (cell n t u v) (over k)
+  unfolding gather over
+  gather-from zero h l = absurd (omega arith)
+  gather-from (suc k) h l =
+      ⊎-elim (λ (e : u ≡ k). subst (λ (i : ℕ). better late (gather late n t set i v) (kept (bit set i) (cell n t i v)) ≡ better late (cell n t u v) (better late (over i) (after (cell n s u i) (cell n t i v)))) e
+      (ap₂ (better late) (gather-before u (le-refl u)) gives-own ∙ own-twice (over u)))
+      (λ (m : u < k). ap₂ (better late) (gather-from k m (omega arith)) (gives-after k (omega arith) (ne-eqb u k (omega arith))) ∙ better-assoc late _ _ _)
+      (eq-or-lt-of-le (le-of-suc-le-suc h))
+
+  pub cross-gather : crossed late n s t u v ≡ apart u v (better late (cell n s u v) (gather late n t set n v))
+  unfolding crossed
+  cross-gather =
+      ap (apart u v) (cross-over n ∙ better-assoc late _ _ _ ∙ ap (better late (cell n s u v)) (sym (gather-from n hu (le-refl n))))
+
+rows-ext : (n : ℕ) (f g : ℕ → ℕ → ℕ) (k : ℕ) → ((u v : ℕ) → u < k → v < n → f u v ≡ g u v) → rows n f k ≡ rows n g k
+unfolding rows
+rows-ext n f g zero h = refl
+rows-ext n f g (suc k) h =
+    ap₂ (λ (a b : List ℕ). a ++ b) (rows-ext n f g k (λ u v l m. h u v (omega arith) m)) (tab-ext (f k) (g k) n (λ v m. h k v (omega arith) m))
+
+-- all rows
+pub crossed-rows : (late : Bool) (n : ℕ) (s t sets folds : List ℕ) → sets ≡ tab (λ u. setOf (cell n s u) n (someOf n t) u) n
+    → folds ≡ rows n (foldOf late n t sets) n → rows n (λ u. joinedRow late (cell n s u) (cell n folds u) u) n ≡ rows n (crossed late n s t) n
+crossed-rows late n s t sets folds e f = rows-ext n _ _ n row
+  where
+    row : (u v : ℕ) → u < n → v < n → joinedRow late (cell n s u) (cell n folds u) u v ≡ crossed late n s t u v
+    row u v hu hv =
+        let a : cell n folds u v ≡ foldOf late n t sets u v = rw f (cell-rows n (foldOf late n t sets) n u v hu hv) in
+        let b : getD sets u 0 ≡ setOf (cell n s u) n (someOf n t) u = rw e (getD-tab (λ i. setOf (cell n s i) n (someOf n t) i) n u hu) in
+        ap (λ (x : ℕ). apart u v (better late (cell n s u v) x)) (a ∙ ap (λ (x : ℕ). gather late n t x n v) b) ∙ sym (cross-gather late n s t u v hu hv)
+
+-- ---- local arrays
+
+pub square : {n : ℕ} → n ≤ 32 → n * n ≤ 1024
+square h = mul-le-mul h h
+
+-- the first k words of a local array, written and lent again
+pub lent-again : (k : ℕ) (x y r : List ℕ) → x ≡ y → length y ≡ k → take (k - 0) (x ++ drop (k - 0) r) ≡ y
+lent-again k x y r e l = rw (sub-zero, e) (take-at y (drop k r) k l)
+
+-- ---- the two halves of a table
+
+cross-arrive : (n : ℕ) (s t : List ℕ) (k u v : ℕ) → crossBy false n s t k u v ≡ arriveBy n s t k u v
+unfolding crossBy arriveBy better
+cross-arrive n s t zero u v = refl
+cross-arrive n s t (suc k) u v = ap (λ (x : ℕ). sooner x (after (cell n s u k) (cell n t k v))) (cross-arrive n s t k u v)
+
+pub crossed-arrivals : (n : ℕ) (s t : List ℕ) → rows n (crossed false n s t) n ≡ arrivals n s t
+unfolding crossed arrivals arrival
+crossed-arrivals n s t = rows-ext n _ _ n (λ u v hu hv. ap (apart u v) (cross-arrive n s t n u v))
+
+-- rows and columns exchanged
+abbrev turned : ℕ → List ℕ → ℕ → ℕ → ℕ
+turned n half u v = cell n half v u
+
+eqb-comm : (u v : ℕ) → eqb v u ≡ eqb u v
+eqb-comm u v = by (eqb v u) refl
+  where
+    by : (b : Bool) → eqb v u ≡ b → b ≡ eqb u v
+    by true e = sym (eq-eqb u v (sym (eqb-true v u e)))
+    by false e = sym (ne-eqb u v (λ q. eqb-false v u e (sym q)))
+
+apart-comm : (u v x : ℕ) → apart v u x ≡ apart u v x
+unfolding apart
+apart-comm u v x = ap (λ (b : Bool). choose b 0 x) (eqb-comm u v)
+
+module _ (n : ℕ) (s t near far out : List ℕ) (e : near ≡ rows n (turned n t) n) (f : far ≡ rows n (turned n s) n) where
+  cross-depart : (k u v : ℕ) → k ≤ n → u < n → v < n → crossBy true n near far k v u ≡ departBy n s t k u v
+  unfolding crossBy departBy better
+  cross-depart zero u v h hu hv =
+      ap₂ later (rw e (cell-rows n (turned n t) n v u hv hu)) (rw f (cell-rows n (turned n s) n v u hv hu)) ∙ better-comm true (cell n t u v) (cell n s u v)
+  cross-depart (suc k) u v h hu hv =
+      ap₂ later (cross-depart k u v (omega arith) hu hv)
+      (ap₂ after (rw e (cell-rows n (turned n t) n v k hv h)) (rw f (cell-rows n (turned n s) n k u h hu)))
+
+  pub crossed-departures : out ≡ rows n (crossed true n near far) n → rows n (turned n out) n ≡ departures n s t
+  unfolding crossed departures departure
+  crossed-departures q =
+      rows-ext n _ _ n (λ u v hu hv. rw q (cell-rows n (crossed true n near far) n v u hv hu) ∙ apart-comm u v _ ∙ ap (apart u v) (cross-depart n u v (le-refl n) hu hv))

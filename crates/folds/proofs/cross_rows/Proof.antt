@@ -1,0 +1,126 @@
+-- `folds::cross_rows` meets its contract. The invariant is `Rowed`.
+-- Assumes nothing.
+use mathlib.Core.Path.{_∙_}
+use Prim.Native.Nat.{_-_, _*_}
+use native.Mathlib.Omega.{arith}
+use Rattle.times.specs.Times.{cell}
+use Rattle.times.proofs.Rows.{row-le, part-length, Rowed, rowed-start, rowed-turn, rowed-all}
+use Rattle.folds.specs.Folds.{joinedRow}
+use Rattle.folds.proofs.Gathered.{joined-lent}
+use borrow.Author.Needs.{needs}
+use Rattle.folds.proofs.cross_rows.Statement.{statement}
+use Rattle.folds.proofs.cross_rows.Tie as tie
+
+abbrev Inv-loop : tie.InvT-loop
+Inv-loop out₀ earlier folds n late u₀ out u = Rowed n (λ i. joinedRow late (cell n earlier i) (cell n folds i) i) out₀ out u
+
+abbrev μ-loop : tie.MeasureT-loop
+μ-loop out₀ earlier folds n late u₀ out u = n - u
+
+loop-holds : tie.Need-loop-holds Inv-loop μ-loop
+loop-holds c = rowed-start (c .before .before .before .pre .1 .0)
+
+mul-at : tie.Need-mul-at Inv-loop μ-loop
+mul-at c = omega (arith, row-le _ (c .loop-test .taken))
+
+add-cross-row : tie.Need-add-cross-row Inv-loop μ-loop
+add-cross-row c = omega (arith, row-le _ (c .loop-test .taken))
+
+mul-cross-row : tie.Need-mul-cross-row Inv-loop μ-loop
+mul-cross-row c = omega (arith, row-le _ (c .loop-test .taken))
+
+sub-cross-row : tie.Need-sub-cross-row Inv-loop μ-loop
+sub-cross-row c = search needs
+
+part-cross-row-start : tie.Need-part-cross-row-start Inv-loop μ-loop
+part-cross-row-start c = search needs
+
+part-cross-row-end : tie.Need-part-cross-row-end Inv-loop μ-loop
+part-cross-row-end c = omega (arith, row-le _ (c .loop-test .taken))
+
+add-cross-row-2 : tie.Need-add-cross-row-2 Inv-loop μ-loop
+add-cross-row-2 c = omega (arith, row-le _ (c .before .loop-test .taken))
+
+mul-cross-row-2 : tie.Need-mul-cross-row-2 Inv-loop μ-loop
+mul-cross-row-2 c = omega (arith, row-le _ (c .before .loop-test .taken))
+
+sub-cross-row-2 : tie.Need-sub-cross-row-2 Inv-loop μ-loop
+sub-cross-row-2 c = search needs
+
+part-cross-row-start-2 : tie.Need-part-cross-row-start-2 Inv-loop μ-loop
+part-cross-row-start-2 c = search needs
+
+part-cross-row-end-2 : tie.Need-part-cross-row-end-2 Inv-loop μ-loop
+part-cross-row-end-2 c = omega (arith, row-le _ (c .before .loop-test .taken))
+
+add-cross-row-3 : tie.Need-add-cross-row-3 Inv-loop μ-loop
+add-cross-row-3 c = omega (arith, row-le _ (c .before .before .loop-test .taken))
+
+mul-cross-row-3 : tie.Need-mul-cross-row-3 Inv-loop μ-loop
+mul-cross-row-3 c = omega (arith, row-le _ (c .before .before .loop-test .taken))
+
+sub-cross-row-3 : tie.Need-sub-cross-row-3 Inv-loop μ-loop
+sub-cross-row-3 c = search needs
+
+part-cross-row-start-3 : tie.Need-part-cross-row-start-3 Inv-loop μ-loop
+part-cross-row-start-3 c = search needs
+
+part-cross-row-end-3 : tie.Need-part-cross-row-end-3 Inv-loop μ-loop
+part-cross-row-end-3 c = omega (arith, row-le _ (c .before .before .loop-test .taken))
+
+cross-row-requires : tie.Need-cross-row-requires Inv-loop μ-loop
+cross-row-requires c κs =
+    let c8 = c .before .before .before .before .before .before .before .before in
+    let at = c .before .before .before .before .loop .u * c8 .args .n in
+    let h = c .before .before .before .loop-test .taken in
+    let r = row-le (c8 .args .n) h in
+    (h, (part-length _ at (c .before .before .before .before .loop .out) (omega (arith, c .before .before .before .before .loop .inv .long)), (part-length _ at (c8 .args .earlier .now) (omega (arith, c8 .pre)), part-length _ at (c8 .args .folds .now) (omega (arith, c8 .pre)))))
+
+add-u : tie.Need-add-u Inv-loop μ-loop
+add-u c = search needs
+
+loop-less : tie.Need-loop-less Inv-loop μ-loop
+loop-less c = search needs
+
+loop-again : tie.Need-loop-again Inv-loop μ-loop
+loop-again c =
+    let c7 = c .before .before .before .before .before .before .before in
+    let c11 = c7 .before .before .before .before in
+    rowed-turn (c7 .loop .inv) (c .before .before .before .before .before .before .loop-test .taken)
+    (c .before .before .cross-row .ensures ∙ joined-lent (c11 .args .late) (c11 .args .n) (c7 .loop .u) (c11 .args .earlier .now) (c11 .args .folds .now))
+
+same-length : tie.Need-same-length Inv-loop μ-loop
+same-length c = search needs
+
+returns : tie.Need-returns Inv-loop μ-loop
+returns c = rowed-all (c .before .loop .inv) (c .loop-test .left)
+
+pub cross-rows-spec : {M : Type 1} → statement M
+cross-rows-spec =
+    tie.close
+    (tie.spec
+    Inv-loop
+    μ-loop
+    loop-holds
+    mul-at
+    add-cross-row
+    mul-cross-row
+    sub-cross-row
+    part-cross-row-start
+    part-cross-row-end
+    add-cross-row-2
+    mul-cross-row-2
+    sub-cross-row-2
+    part-cross-row-start-2
+    part-cross-row-end-2
+    add-cross-row-3
+    mul-cross-row-3
+    sub-cross-row-3
+    part-cross-row-start-3
+    part-cross-row-end-3
+    cross-row-requires
+    add-u
+    loop-less
+    loop-again
+    same-length
+    returns)

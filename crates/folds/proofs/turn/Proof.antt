@@ -1,0 +1,74 @@
+-- `folds::turn` meets its contract. The invariant is `Rowed`.
+-- Assumes nothing.
+use Prim.Native.Nat.{_-_}
+use native.Mathlib.Omega.{arith}
+use Rattle.times.specs.Times.{cell}
+use Rattle.times.proofs.Rows.{row-le, Rowed, rowed-start, rowed-turn, rowed-all}
+use borrow.Author.Needs.{needs}
+use Rattle.folds.proofs.turn.Statement.{statement}
+use Rattle.folds.proofs.turn.Tie as tie
+
+abbrev Inv-loop : tie.InvT-loop
+Inv-loop out₀ half n u₀ out u = Rowed n (λ i j. cell n half j i) out₀ out u
+
+abbrev μ-loop : tie.MeasureT-loop
+μ-loop out₀ half n u₀ out u = n - u
+
+loop-holds : tie.Need-loop-holds Inv-loop μ-loop
+loop-holds c = rowed-start (c .before .before .pre .1 .0)
+
+mul-at : tie.Need-mul-at Inv-loop μ-loop
+mul-at c = omega (arith, row-le _ (c .loop-test .taken))
+
+add-turn-row : tie.Need-add-turn-row Inv-loop μ-loop
+add-turn-row c = omega (arith, row-le _ (c .loop-test .taken))
+
+mul-turn-row : tie.Need-mul-turn-row Inv-loop μ-loop
+mul-turn-row c = omega (arith, row-le _ (c .loop-test .taken))
+
+sub-turn-row : tie.Need-sub-turn-row Inv-loop μ-loop
+sub-turn-row c = search needs
+
+part-turn-row-start : tie.Need-part-turn-row-start Inv-loop μ-loop
+part-turn-row-start c = search needs
+
+part-turn-row-end : tie.Need-part-turn-row-end Inv-loop μ-loop
+part-turn-row-end c = omega (arith, row-le _ (c .loop-test .taken))
+
+turn-row-requires : tie.Need-turn-row-requires Inv-loop μ-loop
+turn-row-requires c κs = search needs
+
+add-u : tie.Need-add-u Inv-loop μ-loop
+add-u c = search needs
+
+loop-less : tie.Need-loop-less Inv-loop μ-loop
+loop-less c = search needs
+
+loop-again : tie.Need-loop-again Inv-loop μ-loop
+loop-again c = rowed-turn (c .before .before .before .before .before .loop .inv) (c .before .before .before .before .loop-test .taken) (c .before .before .turn-row .ensures)
+
+same-length : tie.Need-same-length Inv-loop μ-loop
+same-length c = search needs
+
+returns : tie.Need-returns Inv-loop μ-loop
+returns c = rowed-all (c .before .loop .inv) (c .loop-test .left)
+
+pub turn-spec : {M : Type 1} → statement M
+turn-spec =
+    tie.close
+    (tie.spec
+    Inv-loop
+    μ-loop
+    loop-holds
+    mul-at
+    add-turn-row
+    mul-turn-row
+    sub-turn-row
+    part-turn-row-start
+    part-turn-row-end
+    turn-row-requires
+    add-u
+    loop-less
+    loop-again
+    same-length
+    returns)

@@ -1,0 +1,72 @@
+-- `folds::turn_row` meets its contract. The invariant is `Made`.
+-- Assumes nothing.
+use Prim.Native.Nat.{_-_}
+use native.Mathlib.Omega.{arith}
+use mathlib.Core.Path.{refl}
+use Rattle.lists.proofs.Tab.{Made, made-start, made-turn, made-all}
+use Rattle.times.specs.Times.{cell}
+use Rattle.times.proofs.Rows.{row-le}
+use borrow.Author.Needs.{needs}
+use Rattle.folds.proofs.turn_row.Statement.{statement}
+use Rattle.folds.proofs.turn_row.Tie as tie
+
+abbrev Inv-loop : tie.InvT-loop
+Inv-loop out₀ half n u v₀ out v = Made (λ i. cell n half i u) n out₀ out v
+
+abbrev μ-loop : tie.MeasureT-loop
+μ-loop out₀ half n u v₀ out v = n - v
+
+loop-holds : tie.Need-loop-holds Inv-loop μ-loop
+loop-holds c = made-start (c .pre .1 .1 .0)
+
+mul-out : tie.Need-mul-out Inv-loop μ-loop
+mul-out c = omega (arith, row-le _ (c .loop-test .taken))
+
+add-out : tie.Need-add-out Inv-loop μ-loop
+add-out c = omega (arith, row-le _ (c .loop-test .taken))
+
+mul-out-2 : tie.Need-mul-out-2 Inv-loop μ-loop
+mul-out-2 c = omega (arith, row-le _ (c .loop-test .taken))
+
+shared-slice-read-out : tie.Need-shared-slice-read-out Inv-loop μ-loop
+shared-slice-read-out c = omega (arith, row-le _ (c .before .loop-test .taken))
+
+mul-out-3 : tie.Need-mul-out-3 Inv-loop μ-loop
+mul-out-3 c = search needs
+
+slice-write-out : tie.Need-slice-write-out Inv-loop μ-loop
+slice-write-out c = search needs
+
+add-v : tie.Need-add-v Inv-loop μ-loop
+add-v c = search needs
+
+loop-less : tie.Need-loop-less Inv-loop μ-loop
+loop-less c = search needs
+
+loop-again : tie.Need-loop-again Inv-loop μ-loop
+loop-again c = made-turn (c .before .before .loop .inv) (c .before .loop-test .taken) refl
+
+same-length : tie.Need-same-length Inv-loop μ-loop
+same-length c = search needs
+
+returns : tie.Need-returns Inv-loop μ-loop
+returns c = made-all (c .before .loop .inv) (c .loop-test .left)
+
+pub turn-row-spec : {M : Type 1} → statement M
+turn-row-spec =
+    tie.close
+    (tie.spec
+    Inv-loop
+    μ-loop
+    loop-holds
+    mul-out
+    add-out
+    mul-out-2
+    shared-slice-read-out
+    mul-out-3
+    slice-write-out
+    add-v
+    loop-less
+    loop-again
+    same-length
+    returns)

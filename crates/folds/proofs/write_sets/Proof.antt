@@ -1,0 +1,93 @@
+-- `folds::write_sets` meets its contract. The invariant is `Made`; a lent row is `set-lent`.
+-- Assumes nothing.
+use mathlib.Core.Path.{_∙_}
+use Prim.Native.Nat.{_-_}
+use native.Mathlib.Nat.{le-of-eq}
+use native.Mathlib.Omega.{arith}
+use Rattle.lists.proofs.Tab.{Made, made-start, made-turn, made-all}
+use Rattle.times.specs.Times.{cell}
+use Rattle.times.proofs.Rows.{row-le, part-length}
+use Rattle.folds.specs.Folds.{setOf}
+use Rattle.folds.proofs.Sets.{set-lent}
+use borrow.Author.Needs.{needs}
+use Rattle.folds.proofs.write_sets.Statement.{statement}
+use Rattle.folds.proofs.write_sets.Tie as tie
+
+abbrev Inv-loop : tie.InvT-loop
+Inv-loop sets₀ half n some u₀ sets u = Made (λ i. setOf (cell n half i) n some i) n sets₀ sets u
+
+abbrev μ-loop : tie.MeasureT-loop
+μ-loop sets₀ half n some u₀ sets u = n - u
+
+loop-holds : tie.Need-loop-holds Inv-loop μ-loop
+loop-holds c = made-start (c .before .before .pre .1 .0)
+
+mul-at : tie.Need-mul-at Inv-loop μ-loop
+mul-at c = omega (arith, row-le _ (c .loop-test .taken))
+
+add-set-of : tie.Need-add-set-of Inv-loop μ-loop
+add-set-of c = omega (arith, row-le _ (c .loop-test .taken))
+
+mul-set-of : tie.Need-mul-set-of Inv-loop μ-loop
+mul-set-of c = omega (arith, row-le _ (c .loop-test .taken))
+
+sub-set-of : tie.Need-sub-set-of Inv-loop μ-loop
+sub-set-of c = search needs
+
+part-set-of-start : tie.Need-part-set-of-start Inv-loop μ-loop
+part-set-of-start c = search needs
+
+part-set-of-end : tie.Need-part-set-of-end Inv-loop μ-loop
+part-set-of-end c = omega (arith, row-le _ (c .loop-test .taken))
+
+set-of-requires : tie.Need-set-of-requires Inv-loop μ-loop
+set-of-requires c κs =
+    let h = c .before .loop-test .taken in
+    let p = c .before .before .before .before .before .pre in
+    (p .0, (omega arith, le-of-eq (part-length _ _ _ (omega (arith, row-le _ h)))))
+
+mul-sets : tie.Need-mul-sets Inv-loop μ-loop
+mul-sets c = search needs
+
+slice-write-sets : tie.Need-slice-write-sets Inv-loop μ-loop
+slice-write-sets c = search needs
+
+add-u : tie.Need-add-u Inv-loop μ-loop
+add-u c = search needs
+
+loop-less : tie.Need-loop-less Inv-loop μ-loop
+loop-less c = search needs
+
+loop-again : tie.Need-loop-again Inv-loop μ-loop
+loop-again c =
+    let c3 = c .before .before .before in
+    let c6 = c3 .before .before .before in
+    made-turn (c3 .loop .inv) (c .before .before .loop-test .taken) (c .set-of .ensures ∙ set-lent (c6 .args .n) (c3 .loop .u) (c6 .args .some) (c6 .args .half .now))
+
+same-length : tie.Need-same-length Inv-loop μ-loop
+same-length c = search needs
+
+returns : tie.Need-returns Inv-loop μ-loop
+returns c = made-all (c .before .loop .inv) (c .loop-test .left)
+
+pub write-sets-spec : {M : Type 1} → statement M
+write-sets-spec =
+    tie.close
+    (tie.spec
+    Inv-loop
+    μ-loop
+    loop-holds
+    mul-at
+    add-set-of
+    mul-set-of
+    sub-set-of
+    part-set-of-start
+    part-set-of-end
+    set-of-requires
+    mul-sets
+    slice-write-sets
+    add-u
+    loop-less
+    loop-again
+    same-length
+    returns)

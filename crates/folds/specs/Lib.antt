@@ -1,0 +1,2 @@
+-- Definitions that the contracts of `folds` cite.
+pub mod Folds

@@ -1,0 +1,382 @@
+// The composition of tables of times. A table is crossed with a later one row by row: what row u takes from the later table depends only on
+// which boards u reaches, so rows with the same set of boards share one fold over the later table. Latest departures are the same, with
+// rows and columns exchanged and the two parts too.
+ghost use mathlib.Core.Path.{_≡_};
+ghost use mathlib.Core.Bool.{Bool};
+ghost use Prim.Native.Nat.{_+_, _*_, _≤_, _<_};
+ghost use lib.ListN.{length, getD};
+ghost use Rattle.lists.specs.Tab.{tab, zeros, padded};
+ghost use Rattle.times.specs.Times.{cell, rows, sooner, later, arrivals, departures, composeTimes};
+ghost use Rattle.folds.specs.Folds.{each, better, betterIf, gather, foldOf, joinedRow, markOf, anyOf, marks, someOf, setOf, crossed, Shared};
+use model::Board;
+
+// ---- a row taken in
+
+// The earlier of two times. Less one, where 0 becomes the largest word, the earlier is the smaller: one comparison and a select.
+fn the_sooner(x: u32, y: u32) -> u32
+    ensures { λ r. ⌜ r ≡ sooner x y ⌝ }
+{
+    if std::num::wrapping_sub_u32(x, 1) <= std::num::wrapping_sub_u32(y, 1) {
+        return x;
+    }
+    y
+}
+
+// The later of two times.
+fn the_later(x: u32, y: u32) -> u32
+    ensures { λ r. ⌜ r ≡ later x y ⌝ }
+{
+    if x <= y { y } else { x }
+}
+
+fn fold_sooner(out: &mut [u32], row: &[u32], n: usize)
+    requires { ⌜ (n ≡ length (now out)) × (n ≡ length (now row)) ⌝ }
+    ensures { λ _. ⌜ now (out .exit) ≡ tab (each sooner (now (out .entry)) (now (row .entry))) n ⌝ }
+{
+    for v in 0..n {
+        out[v] = the_sooner(out[v], row[v]);
+    }
+}
+
+fn fold_later(out: &mut [u32], row: &[u32], n: usize)
+    requires { ⌜ (n ≡ length (now out)) × (n ≡ length (now row)) ⌝ }
+    ensures { λ _. ⌜ now (out .exit) ≡ tab (each later (now (out .entry)) (now (row .entry))) n ⌝ }
+{
+    for v in 0..n {
+        out[v] = the_later(out[v], row[v]);
+    }
+}
+
+// The words of row join those of out: the later ones for departures, the earlier ones for arrivals.
+fn fold(out: &mut [u32], row: &[u32], n: usize, late: bool)
+    requires { ⌜ (n ≡ length (now out)) × (n ≡ length (now row)) ⌝ }
+    ensures { λ _. ⌜ now (out .exit) ≡ tab (each (better late) (now (out .entry)) (now (row .entry))) n ⌝ }
+{
+    if late {
+        fold_later(out, row, n);
+        return;
+    }
+    fold_sooner(out, row, n);
+}
+
+// The same, where the row is to be taken in.
+fn fold_if(out: &mut [u32], row: &[u32], n: usize, late: bool, on: bool)
+    requires { ⌜ (n ≡ length (now out)) × (n ≡ length (now row)) ⌝ }
+    ensures { λ _. ⌜ now (out .exit) ≡ tab (each (betterIf late on) (now (out .entry)) (now (row .entry))) n ⌝ }
+{
+    if on {
+        fold(out, row, n, late);
+    }
+}
+
+// ---- sets of boards, as words
+
+// Bit b, where x is a time.
+fn mark_of(x: u32, b: Board) -> u32
+    requires { ⌜ b .0 < 32 ⌝ }
+    ensures { λ r. ⌜ r ≡ markOf x (b .0) ⌝ }
+{
+    let v = b.0;
+    if x == 0 { 0 } else { 1u32 << v }
+}
+
+// Not 0 where the row holds a time.
+fn row_any(row: &[u32], n: usize) -> u32
+    requires { ⌜ n ≤ length (now row) ⌝ }
+    ensures { λ r. ⌜ r ≡ anyOf (λ v. getD (now (row .entry)) v 0) n ⌝ }
+{
+    let mut any = 0u32;
+    for v in 0..n {
+        any = any | row[v];
+    }
+    any
+}
+
+// The boards at which the row has a time.
+fn row_marks(row: &[u32], n: usize) -> u32
+    requires { ⌜ (n ≤ 32) × (n ≤ length (now row)) ⌝ }
+    ensures { λ r. ⌜ r ≡ marks (λ v. getD (now (row .entry)) v 0) n ⌝ }
+{
+    let mut set = 0u32;
+    for v in 0..n {
+        set = set | mark_of(row[v], Board(v));
+    }
+    set
+}
+
+// The boards whose row holds a time.
+fn some_rows(half: &[u32], n: usize) -> u32
+    requires { ⌜ (n ≤ 32) × (n * n ≤ length (now half)) ⌝ }
+    ensures { λ r. ⌜ r ≡ someOf n (now (half .entry)) ⌝ }
+{
+    let mut set = 0u32;
+    for w in 0..n {
+        let at = w * n;
+        set = set | mark_of(row_any(&half[at..at + n], n), Board(w));
+    }
+    set
+}
+
+// What a row takes from the later table: the rows of the boards that it reaches, and of the board itself, but for those without a time.
+fn set_of(row: &[u32], n: usize, some: u32, own: Board) -> u32
+    requires { ⌜ (n ≤ 32) × ((own .0 < 32) × (n ≤ length (now row))) ⌝ }
+    ensures { λ r. ⌜ r ≡ setOf (λ v. getD (now (row .entry)) v 0) n some (own .0) ⌝ }
+{
+    let u = own.0;
+    (row_marks(row, n) | (1u32 << u)) & some
+}
+
+// The sets of all rows.
+fn write_sets(sets: &mut [u32], half: &[u32], n: usize, some: u32)
+    requires { ⌜ (n ≤ 32) × ((n ≡ length (now sets)) × (n * n ≤ length (now half))) ⌝ }
+    ensures { λ _. ⌜ now (sets .exit) ≡ tab (λ u. setOf (cell n (now (half .entry)) u) n some u) n ⌝ }
+{
+    for u in 0..n {
+        let at = u * n;
+        sets[u] = set_of(&half[at..at + n], n, some, Board(u));
+    }
+}
+
+// The first row with the same set as row u.
+fn first_same(sets: &[u32], u: usize) -> usize
+    requires { ⌜ u < length (now sets) ⌝ }
+    ensures { λ r. ⌜ (r ≤ u) × (getD (now (sets .entry)) r 0 ≡ getD (now (sets .entry)) u 0) ⌝ }
+{
+    let set = sets[u];
+    for k in 0..u {
+        if sets[k] == set {
+            return k;
+        }
+    }
+    u
+}
+
+// ---- folds
+
+// Takes in the rows of the boards of a set.
+fn fold_set(out: &mut [u32], later: &[u32], n: usize, set: u32, late: bool)
+    requires { ⌜ (n ≤ 32) × ((now out ≡ zeros n) × ((n ≡ length (now out)) × (n * n ≤ length (now later)))) ⌝ }
+    ensures { λ _. ⌜ now (out .exit) ≡ tab (gather late n (now (later .entry)) set n) n ⌝ }
+{
+    for w in 0..n {
+        let at = w * n;
+        fold_if(
+            out,
+            &later[at..at + n],
+            n,
+            late,
+            links::linked(set, Board(w)),
+        );
+    }
+}
+
+// The fold of row u by value, and zeros up to 32: that of an earlier row with the same set, where there is one.
+fn fold_of(
+    folds: &[u32],
+    later: &[u32],
+    sets: &[u32],
+    n: usize,
+    own: Board,
+    late: bool,
+) -> [u32; 32]
+    requires { ⌜ Shared late n (now later) (now sets) (own .0) (now folds) ⌝ }
+    ensures { λ r. ⌜ r ≡ padded 32 (tab (foldOf late n (now (later .entry)) (now (sets .entry)) (own .0)) n) ⌝ }
+{
+    let u = own.0;
+    let k = first_same(sets, u);
+    if k < u {
+        let at = k * n;
+        return lists::load(&folds[at..at + n], n);
+    }
+    let mut out = lists::no_words();
+    fold_set(&mut out[0..n], later, n, sets[u], late);
+    out
+}
+
+// The folds of all rows.
+fn fold_rows(folds: &mut [u32], later: &[u32], sets: &[u32], n: usize, late: bool)
+    requires { ⌜ (n ≤ 32) × ((n ≤ length (now sets)) × ((n * n ≡ length (now folds)) × (n * n ≤ length (now later)))) ⌝ }
+    ensures { λ _. ⌜ now (folds .exit) ≡ rows n (foldOf late n (now (later .entry)) (now (sets .entry))) n ⌝ }
+{
+    for u in 0..n {
+        let row = fold_of(folds, later, sets, n, Board(u), late);
+        let at = u * n;
+        lists::copy_over(&mut folds[at..at + n], &row[0..n], n);
+    }
+}
+
+// ---- one half
+
+fn both_sooner(out: &mut [u32], row: &[u32], joined: &[u32], n: usize)
+    requires { ⌜ (n ≡ length (now out)) × ((n ≡ length (now row)) × (n ≡ length (now joined))) ⌝ }
+    ensures { λ _. ⌜ now (out .exit) ≡ tab (each sooner (now (row .entry)) (now (joined .entry))) n ⌝ }
+{
+    for v in 0..n {
+        out[v] = the_sooner(row[v], joined[v]);
+    }
+}
+
+fn both_later(out: &mut [u32], row: &[u32], joined: &[u32], n: usize)
+    requires { ⌜ (n ≡ length (now out)) × ((n ≡ length (now row)) × (n ≡ length (now joined))) ⌝ }
+    ensures { λ _. ⌜ now (out .exit) ≡ tab (each later (now (row .entry)) (now (joined .entry))) n ⌝ }
+{
+    for v in 0..n {
+        out[v] = the_later(row[v], joined[v]);
+    }
+}
+
+// The better times of two rows.
+fn both(out: &mut [u32], row: &[u32], joined: &[u32], n: usize, late: bool)
+    requires { ⌜ (n ≡ length (now out)) × ((n ≡ length (now row)) × (n ≡ length (now joined))) ⌝ }
+    ensures { λ _. ⌜ now (out .exit) ≡ tab (each (better late) (now (row .entry)) (now (joined .entry))) n ⌝ }
+{
+    if late {
+        both_later(out, row, joined, n);
+        return;
+    }
+    both_sooner(out, row, joined, n);
+}
+
+// A row of the composition: the earlier row with its fold, and no time for the board itself.
+fn cross_row(out: &mut [u32], row: &[u32], joined: &[u32], n: usize, own: Board, late: bool)
+    requires { ⌜ (own .0 < n) × ((n ≡ length (now out)) × ((n ≡ length (now row)) × (n ≡ length (now joined)))) ⌝ }
+    ensures { λ _. ⌜ now (out .exit) ≡ tab (joinedRow late (λ v. getD (now (row .entry)) v 0) (λ v. getD (now (joined .entry)) v 0) (own .0)) n ⌝ }
+{
+    let u = own.0;
+    both(out, row, joined, n, late);
+    out[u] = 0;
+}
+
+fn cross_rows(out: &mut [u32], earlier: &[u32], folds: &[u32], n: usize, late: bool)
+    requires { ⌜ (n ≤ 32) × ((n * n ≡ length (now out)) × ((n * n ≤ length (now earlier)) × (n * n ≤ length (now folds)))) ⌝ }
+    ensures { λ _. ⌜ now (out .exit) ≡ rows n (λ u. joinedRow late (cell n (now (earlier .entry)) u) (cell n (now (folds .entry)) u) u) n ⌝ }
+{
+    for u in 0..n {
+        let at = u * n;
+        cross_row(
+            &mut out[at..at + n],
+            &earlier[at..at + n],
+            &folds[at..at + n],
+            n,
+            Board(u),
+            late,
+        );
+    }
+}
+
+// A half of the composition of two halves, with room lent for the sets and the folds.
+fn cross_in(
+    out: &mut [u32],
+    earlier: &[u32],
+    later: &[u32],
+    sets: &mut [u32],
+    folds: &mut [u32],
+    n: usize,
+    late: bool,
+)
+    requires { ⌜ (n ≤ 32) × ((n * n ≡ length (now out)) × ((n * n ≤ length (now earlier)) × ((n * n ≤ length (now later)) × ((n ≡ length (now sets)) × (n * n ≡ length (now folds)))))) ⌝ }
+    ensures { λ _. ⌜ now (out .exit) ≡ rows n (crossed late n (now (earlier .entry)) (now (later .entry))) n ⌝ }
+{
+    let some = some_rows(later, n);
+    write_sets(sets, earlier, n, some);
+    fold_rows(folds, later, sets, n, late);
+    cross_rows(out, earlier, folds, n, late);
+}
+
+// A half of the composition of two halves.
+fn cross(out: &mut [u32], earlier: &[u32], later: &[u32], n: usize, late: bool)
+    requires { ⌜ (n ≤ 32) × ((n * n ≡ length (now out)) × ((n * n ≤ length (now earlier)) × (n * n ≤ length (now later)))) ⌝ }
+    ensures { λ _. ⌜ now (out .exit) ≡ rows n (crossed late n (now (earlier .entry)) (now (later .entry))) n ⌝ }
+{
+    let m = n * n;
+    let mut sets = lists::no_words();
+    let mut folds = no_times();
+    cross_in(
+        out,
+        earlier,
+        later,
+        &mut sets[0..n],
+        &mut folds[0..m],
+        n,
+        late,
+    );
+}
+
+fn no_times() -> [u32; 1024]
+    ensures { λ r. ⌜ r ≡ zeros 1024 ⌝ }
+{
+    [0u32; 1024]
+}
+
+// ---- rows and columns exchanged
+
+// Column u of half.
+fn turn_row(out: &mut [u32], half: &[u32], n: usize, own: Board)
+    requires { ⌜ (n ≤ 32) × ((own .0 < n) × ((n ≡ length (now out)) × (n * n ≤ length (now half)))) ⌝ }
+    ensures { λ _. ⌜ now (out .exit) ≡ tab (λ v. cell n (now (half .entry)) v (own .0)) n ⌝ }
+{
+    let u = own.0;
+    for v in 0..n {
+        out[v] = half[v * n + u];
+    }
+}
+
+fn turn(out: &mut [u32], half: &[u32], n: usize)
+    requires { ⌜ (n ≤ 32) × ((n * n ≡ length (now out)) × (n * n ≤ length (now half))) ⌝ }
+    ensures { λ _. ⌜ now (out .exit) ≡ rows n (λ u v. cell n (now (half .entry)) v u) n ⌝ }
+{
+    for u in 0..n {
+        let at = u * n;
+        turn_row(&mut out[at..at + n], half, n, Board(u));
+    }
+}
+
+// Latest departures: columns for rows, and the later part for the earlier. Room is lent for the turned tables.
+fn depart_in(
+    half: &mut [u32],
+    left: &[u32],
+    right: &[u32],
+    near: &mut [u32],
+    far: &mut [u32],
+    out: &mut [u32],
+    n: usize,
+)
+    requires { ⌜ (n ≤ 32) × ((n * n ≡ length (now half)) × ((n * n ≤ length (now left)) × ((n * n ≤ length (now right)) × ((n * n ≡ length (now near)) × ((n * n ≡ length (now far)) × (n * n ≡ length (now out))))))) ⌝ }
+    ensures { λ _. ⌜ now (half .exit) ≡ departures n (now (left .entry)) (now (right .entry)) ⌝ }
+{
+    turn(near, right, n);
+    turn(far, left, n);
+    cross(out, near, far, n, true);
+    turn(half, out, n);
+}
+
+fn cross_departures(half: &mut [u32], left: &[u32], right: &[u32], n: usize)
+    requires { ⌜ (n ≤ 32) × ((n * n ≡ length (now half)) × ((n * n ≤ length (now left)) × (n * n ≤ length (now right)))) ⌝ }
+    ensures { λ _. ⌜ now (half .exit) ≡ departures n (now (left .entry)) (now (right .entry)) ⌝ }
+{
+    let m = n * n;
+    let mut near = no_times();
+    let mut far = no_times();
+    let mut out = no_times();
+    depart_in(
+        half,
+        left,
+        right,
+        &mut near[0..m],
+        &mut far[0..m],
+        &mut out[0..m],
+        n,
+    );
+}
+
+// ---- composition
+
+// Writes over out the composition of left, the earlier part, and right, the later part.
+pub fn compose(out: &mut [u32], left: &[u32], right: &[u32], n: usize)
+    requires { ⌜ (n ≤ 32) × ((n * n + n * n ≡ length (now out)) × ((n * n + n * n ≤ length (now left)) × (n * n + n * n ≤ length (now right)))) ⌝ }
+    ensures { λ _. ⌜ now (out .exit) ≡ composeTimes n (now (left .entry)) (now (right .entry)) ⌝ }
+{
+    let m = n * n;
+    cross(&mut out[0..m], left, right, n, false);
+    cross_departures(&mut out[m..m + m], &left[m..], &right[m..], n);
+}
