@@ -1,0 +1,229 @@
+/*
+ * Nookmallow: lengths of a light-linked harness, for controllers in C or C++.
+ *
+ * Up to 32 boards talk by one-way light links, and each pick of the loom has its own set of open links. From the links,
+ * recorded pick by pick, this part works out four lengths from which a controller sets its waits. It answers every
+ * input: with the figures asked for, or with one of the 16 refusals below. It keeps nothing between calls, allocates
+ * nothing, never stops the program, and needs nothing but memcpy and memset of your C library.
+ *
+ * Link with libnookmallow.a (x86-64 Linux calling convention). No call may be made with a struct, a pointer or a count
+ * other than declared here: nothing checks that at run time.
+ *
+ * ---- The words of a pick
+ *
+ * Boards are numbered 0 to n - 1, n from 2 to 32. Picks are numbered from 1, at most 4096. A pick is n words of 32
+ * bits: bit v of word u, which is (words[u] >> v) & 1, is 1 when light passes from board u to board v. Links are
+ * one-way: a link both ways is two bits. Bit u of word u, and bits n and above, must be 0. A whole recording is its
+ * picks one after the other: pick p begins at word (p - 1) * n.
+ *
+ * ---- The four lengths
+ *
+ * A window of k is k picks in a row, wherever it begins. A length is from 1 to the number of picks m, and is taken over
+ * all windows of the picks so far:
+ *
+ *   1 common      the LARGEST k such that in every window of k the links open at all of its picks lead from every board
+ *                 to every other (interval connectivity).
+ *   2 footprint   the SMALLEST k such that in every window of k each link of the list is open at some pick, and no
+ *                 other link is (footprint realization).
+ *   3 reach       the SMALLEST k such that in every window of k each board gets a message to each other board, over
+ *                 open links in the order of the picks, many links in one pick if need be (temporal diameter).
+ *   4 round trip  the SMALLEST k such that in every window of k, for every two boards u and v, the earliest message
+ *                 from u is at v at or before the latest pick at which v can still send one that gets to u; v may
+ *                 answer in the pick in which it heard (round-trip temporal diameter).
+ *
+ * Setting a wait. The pick at which you start counts as the first of the k. Whatever pick p you start at, once pick
+ * p + k - 1 is done: every link of the list has been open (2), what any board sent at p is at every other (3), and its
+ * answer has come back (4). So under measures 2 to 4 wait k picks OR MORE; k - 1 is too short somewhere in what was
+ * recorded. Under measure 1 count on a lasting set of links for k picks OR FEWER. A length speaks of the picks taken,
+ * and of no others:
+ *   - ask again after each pick. Under measures 2 to 4 a later pick can make the length longer, never shorter. Under
+ *     measure 1 it grows while it equals m; from then on it stays or gets shorter.
+ *   - a refused pick is not among the picks taken. If the loom goes on all the same, the length is not that of what was
+ *     woven: after a refused pick, also 7, set no wait from it before you have put the pick right or opened anew.
+ *   - where a design is repeated, a window from its end into its beginning is a window only if you hand over those
+ *     picks too.
+ *   - refusal 9 is no length, and length is then 0: set no wait from it. Under measures 2 to 4 it may end with a later
+ *     pick, under measure 1 it stays.
+ *
+ * ---- Place and area: stopping and starting at any pick
+ *
+ * All that is kept between calls is a place (ten words, handed in and handed back by value) and an area (your words,
+ * changed by the calls). You keep both; keep them together and unaltered. To stop a loom and start it at any later
+ * time, store nookmallow_version(), the place and the first NOOKMALLOW_AREA_WORDS(n, measure, limit) words of the area
+ * once a call has returned; to start, bring back both and go on with the next pick. The area may lie elsewhere then,
+ * also in another machine of the same byte order. Never hand in a place or an area that another version stored:
+ * compare the stored number with nookmallow_version() and, where they differ, open anew and take the picks from pick 1.
+ * A place with the area of another pick, of another opening or with altered words is answered too, but its lengths mean
+ * nothing; refusal 16 finds only places that no walk can come to.
+ *
+ * ---- Pointers
+ *
+ * Each pointer comes with the number of words (for a file: bytes) that may be used from there on. Pointers to words are
+ * aligned to 4 bytes. A pointer may be NULL where its count is 0. What is written may not overlap what is read in the
+ * same call: `area` not `words` or `footprint`, `out` not `words` or `bytes`, under every measure. Nor may two calls
+ * that run at the same time share a buffer that one of them writes; with buffers of their own, calls may run in
+ * several threads at once.
+ */
+#ifndef NOOKMALLOW_H
+#define NOOKMALLOW_H
+
+#include <stddef.h>
+#include <stdint.h>
+
+#ifdef __cplusplus
+extern "C" {
+#endif
+
+/* The version of the format of place and area that this header goes with. Compare it once with nookmallow_version(),
+ * the archive's: where they differ, header and archive do not belong together. */
+#define NOOKMALLOW_VERSION 1u
+
+#define NOOKMALLOW_MIN_BOARDS 2u
+#define NOOKMALLOW_MAX_BOARDS 32u
+#define NOOKMALLOW_MIN_PICKS 1u
+#define NOOKMALLOW_MAX_PICKS 4096u
+
+#define NOOKMALLOW_COMMON 1u
+#define NOOKMALLOW_FOOTPRINT 2u
+#define NOOKMALLOW_REACH 3u
+#define NOOKMALLOW_ROUND_TRIP 4u
+
+/* The words that an area needs: for an opening of `limit` picks, or for a whole run of `limit` picks. */
+#define NOOKMALLOW_PART_WORDS(n, measure) ((measure) == 4 ? 2 * (size_t)(n) * (size_t)(n) : (size_t)(n))
+#define NOOKMALLOW_AREA_WORDS(n, measure, limit) (((size_t)(limit) + 4) * NOOKMALLOW_PART_WORDS(n, measure))
+
+/* The words of a recording: what nookmallow_read needs as output, with its limit for `picks`. */
+#define NOOKMALLOW_RECORDING_WORDS(n, picks) ((size_t)(n) * (size_t)(picks))
+
+/* A thread that calls needs this much stack to spare. Measured, not proved: nookmallow_pick takes the most. */
+#define NOOKMALLOW_STACK_BYTES 98304u
+
+/*
+ * The refusals. Every answer has one in its first word. A call that is refused changes none of your words, but for 9
+ * of nookmallow_whole, which leaves its area zero.
+ */
+enum nookmallow_refusal {
+    NOOKMALLOW_OK = 0,         /* none: the answer is good */
+    NOOKMALLOW_BOARDS = 1,     /* n is not 2 to 32 */
+    NOOKMALLOW_MEASURE = 2,    /* the measure is not 1 to 4 */
+    NOOKMALLOW_PICKS = 3,      /* the limit, or the number of picks lent whole, is not 1 to 4096 */
+    NOOKMALLOW_ROOM = 4,       /* the area or the output is shorter than needed */
+    NOOKMALLOW_FORBIDDEN = 5,  /* a pick or the list has a link from a board to itself, or a bit n or above */
+    NOOKMALLOW_UNLISTED = 6,   /* measure 2, pick by pick: the pick has a link that the list of the opening has not */
+    NOOKMALLOW_FULL = 7,       /* one pick more than the limit; to go on, open anew with a greater limit */
+    NOOKMALLOW_NO_PICK = 8,    /* no pick yet, so no length */
+    NOOKMALLOW_NO_LENGTH = 9,  /* no length exists: all picks together fail (2 to 4), or some single pick does (1) */
+    NOOKMALLOW_SHAPE = 10,     /* the number of words is not n (a pick, the list), or not a multiple of n (whole) */
+    NOOKMALLOW_COMMAND = 11,   /* file: an unknown command, the first is not 42, or 42 again */
+    NOOKMALLOW_STOPPED = 12,   /* file: it stops before 45 or inside operands */
+    NOOKMALLOW_OPERANDS = 13,  /* file: the two boards of a link are equal, or one is n or above */
+    NOOKMALLOW_UNCHANGED = 14, /* file: opens a link that is open, or shuts one that is shut */
+    NOOKMALLOW_TRAILING = 15,  /* file: bytes after 45 */
+    NOOKMALLOW_PLACE = 16      /* no walk comes to this place: it was altered, never opened, or not stored whole */
+};
+
+/*
+ * Where a walk stands. Keep it, hand it in, and keep what is handed back; never make one up. A window start and a
+ * boundary are pick numbers; a flag is 0 for no and 1 for yes.
+ */
+typedef struct nookmallow_place {
+    uint32_t boards;       /* n, as opened */
+    uint32_t measure;      /* 1 to 4, as opened */
+    uint32_t limit;        /* the most picks, as opened */
+    uint32_t taken;        /* picks taken, m */
+    uint32_t start;        /* the window tested last begins at this pick; first 1 */
+    uint32_t boundary;     /* the area holds windows up to this pick, and one from the next pick on; first 0 */
+    uint32_t failed;       /* whether any test has failed */
+    uint32_t passed;       /* whether the last test passed */
+    uint32_t compositions; /* compositions of two windows made so far */
+    uint32_t tests;        /* tests made so far */
+} nookmallow_place;
+
+typedef struct nookmallow_handed {
+    uint32_t refusal;
+    nookmallow_place place;
+} nookmallow_handed;
+
+/* The counts are the work done: for m picks at most 4 * (m - 1) compositions and 2 * m tests. */
+typedef struct nookmallow_answer {
+    uint32_t refusal;
+    uint32_t length; /* 0 where refused */
+    uint32_t compositions;
+    uint32_t tests;
+} nookmallow_answer;
+
+typedef struct nookmallow_measured {
+    uint32_t refusal;
+    uint32_t length; /* 0 where refused */
+    uint32_t compositions;
+    uint32_t tests;
+    nookmallow_place place;
+} nookmallow_measured;
+
+typedef struct nookmallow_reading {
+    uint32_t refusal;
+    uint32_t boards; /* 0 where refused */
+    uint32_t picks;  /* 0 where refused; a file without picks has none either, with refusal 0 */
+} nookmallow_reading;
+
+/* The archive's version of the format of place and area. */
+uint32_t nookmallow_version(void);
+
+/*
+ * Opens a walk over n boards for up to `limit` picks. Under measure 2 `footprint` is the list, n words in the form of a
+ * pick: the links that are expected to come; it may hold no link. Under the other measures it is not read, and NULL
+ * with 0 will do. The area needs NOOKMALLOW_AREA_WORDS(n, measure, limit) words; whatever they held, they are set up,
+ * and words beyond stay as they are.
+ * Refused, looked for in this order: 1, 2, 3, 10 and 5 (measure 2 only), 4. The area then stays as it was, and the
+ * place handed back is ten zeros, which every later call refuses with 16.
+ */
+nookmallow_handed nookmallow_open(uint32_t n, uint32_t measure, uint32_t limit, const uint32_t *footprint,
+                                  size_t footprint_len, uint32_t *area, size_t area_len);
+
+/*
+ * Takes one pick of p.boards words. Always go on with the place that is handed back.
+ * Refused, looked for in this order: 16, 7, 10, 5, 4, 6. The pick is then not taken, the place is handed back word for
+ * word and the area stays as it was, so the call may be repeated with the cause put right.
+ */
+nookmallow_handed nookmallow_pick(nookmallow_place p, uint32_t *area, size_t area_len, const uint32_t *words,
+                                  size_t words_len);
+
+/*
+ * The length of the picks taken, with the counts so far. It may be called after any pick, or not at all; the place is
+ * handed back word for word.
+ * Refused, looked for in this order: 16, 8, 9. Length is then 0, and so are the counts, but under 9, which has them.
+ */
+nookmallow_measured nookmallow_length(nookmallow_place p);
+
+/*
+ * The length of a whole recording of m = words_len / n picks, in one call. Under measure 2 its list is all links that
+ * are open at any pick. The area needs NOOKMALLOW_AREA_WORDS(n, measure, m) words; they may hold anything, and are zero
+ * afterwards, under 9 too. Words beyond stay as they are.
+ * Refused, looked for in this order: 1, 2, 10, 8, 3, 4, 5, 9. Length is then 0, and so are the counts, but under 9.
+ */
+nookmallow_answer nookmallow_whole(uint32_t n, uint32_t measure, const uint32_t *words, size_t words_len,
+                                   uint32_t *area, size_t area_len);
+
+/*
+ * The table of reach of a whole recording, into the first n words of `out`: bit v of word u is set when a message gets
+ * from u to v somewhere in the recording, over open links in the order of the picks. Own bits are clear.
+ * Refused, looked for in this order: 1, 10, 8, 3, 4 (out_len below n), 5. The number of the refusal is returned.
+ */
+uint32_t nookmallow_table(uint32_t n, const uint32_t *words, size_t words_len, uint32_t *out, size_t out_len);
+
+/*
+ * Reads a recording file of up to `limit` picks. Its commands, bytes in hex, each board one byte: 42 n (boards; first,
+ * and once), 4F from to (the link opens), 53 from to (the link shuts), 50 (a pick: the links now open), 45 (end). All
+ * links start shut and stay as set. The words of pick p go to `out` from word (p - 1) * n on; other words stay as they
+ * are. The output must hold limit * n words, however many picks the file has: 32 * limit words are always enough.
+ * Refused: 3 for the limit; then the first cause met going byte by byte, and within a command in this order: 11, 12, at
+ * a 42 then 1, 4, at a 4F or 53 then 13, 14, at a 50 then 7 (beyond the limit); at last 15. No word is written then.
+ */
+nookmallow_reading nookmallow_read(const uint8_t *bytes, size_t bytes_len, uint32_t limit, uint32_t *out,
+                                   size_t out_len);
+
+#ifdef __cplusplus
+}
+#endif
+
+#endif
