@@ -1,0 +1,131 @@
+/*
+ * A small controller: it sets its wait from the reach length, after every pick, and is stopped and started at a pick.
+ * A real one would read its boards instead of `woven`, and write `struct stored` to a disk or a battery-backed store.
+ */
+#include "nookmallow.h"
+#include <stdio.h>
+#include <string.h>
+
+#define BOARDS 3u
+#define LIMIT 16u
+#define AREA NOOKMALLOW_AREA_WORDS(BOARDS, NOOKMALLOW_REACH, LIMIT)
+
+struct controller {
+    nookmallow_place place;
+    uint32_t area[AREA];
+    uint32_t wait; /* picks to wait; 0 while none is known, and the loom then sends nothing */
+};
+
+/* What has to come through a stop. The version says whether a later archive may go on from it. */
+struct stored {
+    uint32_t version;
+    nookmallow_place place;
+    uint32_t area[AREA];
+};
+
+/* What the controller does about each refusal, by its number. */
+static const char *const remedies[17] = {
+    "none",
+    "boards not 2 to 32: correct the setup",
+    "no such measure: correct the setup",
+    "limit not 1 to 4096: correct the setup",
+    "area too short: lend as many words as the macro says",
+    "a forbidden bit: read the boards again",
+    "a link outside the list: open again with a new list",
+    "limit reached: open again, with a greater limit if need be",
+    "no pick yet: go on, without a wait",
+    "no length so far: go on, without a wait",
+    "not a word for each board: read the boards again",
+    "file: unknown or misplaced command",
+    "file: stops too early",
+    "file: a link between boards that are not there",
+    "file: a link that was so already",
+    "file: something after its end",
+    "place damaged: open again, from pick 1",
+};
+
+static void say(uint32_t refusal, uint32_t wait) {
+    if (refusal == NOOKMALLOW_OK) printf(": wait %lu picks\n", (unsigned long)wait);
+    else printf(", refusal %lu: %s\n", (unsigned long)refusal, remedies[refusal]);
+}
+
+static uint32_t open_loom(struct controller *c) {
+    nookmallow_handed h = nookmallow_open(BOARDS, NOOKMALLOW_REACH, LIMIT, NULL, 0, c->area, AREA);
+    c->place = h.place;
+    c->wait = 0;
+    return h.refusal;
+}
+
+/* Takes a pick and sets the wait anew. Without a length there is no wait. */
+static uint32_t weave(struct controller *c, const uint32_t *words) {
+    nookmallow_handed h = nookmallow_pick(c->place, c->area, AREA, words, BOARDS);
+    c->place = h.place;
+    c->wait = 0;
+    if (h.refusal != NOOKMALLOW_OK) return h.refusal;
+    nookmallow_measured r = nookmallow_length(c->place);
+    c->wait = r.length; /* 0 under a refusal */
+    return r.refusal;
+}
+
+static void stop(const struct controller *c, struct stored *s) {
+    s->version = nookmallow_version();
+    s->place = c->place;
+    memcpy(s->area, c->area, sizeof s->area);
+}
+
+/* Goes on from what was stored, unless another version stored it; then the picks have to be taken again from pick 1. */
+static int start(struct controller *c, const struct stored *s) {
+    if (s->version != nookmallow_version()) return 0;
+    c->place = s->place;
+    memcpy(c->area, s->area, sizeof c->area);
+    c->wait = nookmallow_length(c->place).length;
+    return 1;
+}
+
+/* Bit v of a board's word is set when light passes from it to board v. The fourth is a misreading: board 0 to itself. */
+static const uint32_t woven[][BOARDS] = {
+    {2, 4, 0}, {0, 0, 1}, {2, 4, 1}, {1, 4, 1}, {2, 4, 1}, {0, 4, 0}, {2, 0, 0}, {0, 0, 0}, {0, 4, 1}};
+
+int main(void) {
+    static struct controller loom, later;
+    static struct stored store;
+    struct controller *c = &loom;
+    uint32_t refusal;
+    size_t i;
+    if (nookmallow_version() != NOOKMALLOW_VERSION) {
+        printf("header and archive do not belong together\n");
+        return 1;
+    }
+    refusal = open_loom(c);
+    if (refusal != NOOKMALLOW_OK) {
+        printf("opening");
+        say(refusal, 0);
+        return 1;
+    }
+    for (i = 0; i < sizeof woven / sizeof woven[0]; i++) {
+        refusal = weave(c, woven[i]);
+        printf("row %lu, pick %lu", (unsigned long)(i + 1), (unsigned long)c->place.taken);
+        say(refusal, c->wait);
+        if (refusal == NOOKMALLOW_FORBIDDEN) {
+            /* The pick was not taken and nothing has changed: read the boards again and hand over what they say now. */
+            static const uint32_t again[BOARDS] = {2, 4, 1};
+            refusal = weave(c, again);
+            printf("read again, pick %lu", (unsigned long)c->place.taken);
+            say(refusal, c->wait);
+        }
+        if (c->place.taken == 5) {
+            stop(c, &store);
+            memset(&loom, 0xFF, sizeof loom);
+            c = &later;
+            if (!start(c, &store)) return 1;
+            printf("stopped and started after pick %lu", (unsigned long)c->place.taken);
+            say(NOOKMALLOW_OK, c->wait);
+        }
+    }
+    /* A damaged place is refused, never trusted. */
+    c->place.start = 99;
+    refusal = weave(c, woven[0]);
+    printf("damaged");
+    say(refusal, c->wait);
+    return 0;
+}
