@@ -22,6 +22,48 @@ uint32_t bare_reached(uint32_t u, const uint32_t *words, uint32_t n, size_t m) {
     return set;
 }
 
+/* ---- windows of k picks, numbered from 0, that begin at `words` */
+
+/* The first pick by whose end a message of u, sent from pick s on, is at v; k where it never is. */
+static uint32_t arrival(const uint32_t *words, uint32_t n, uint32_t k, uint32_t u, uint32_t v, uint32_t s) {
+    uint32_t set = 1u << u;
+    for (uint32_t i = s; i < k; i++) {
+        set = bare_spread(set, words + i * n, n);
+        if (set >> v & 1) return i;
+    }
+    return k;
+}
+
+/* The earliest message of u is at v at or before the last pick at which one of v can leave that still gets to u. */
+static int round_trip(const uint32_t *words, uint32_t n, uint32_t k, uint32_t u, uint32_t v) {
+    uint32_t there = arrival(words, n, k, u, v, 0);
+    for (uint32_t s = k; s > 0; s--)
+        if (arrival(words, n, k, v, u, s - 1) < k) return there <= s - 1;
+    return 0;
+}
+
+static int window_passes(uint32_t n, uint32_t measure, const uint32_t *list, const uint32_t *words, uint32_t k) {
+    uint32_t both[32], either[32];
+    memcpy(both, words, n * sizeof *both);
+    memcpy(either, words, n * sizeof *either);
+    for (uint32_t i = n; i < k * n; i++) {
+        both[i % n] &= words[i];
+        either[i % n] |= words[i];
+    }
+    if (measure == 2) return memcmp(either, list, n * sizeof *either) == 0;
+    for (uint32_t u = 0; u < n; u++) {
+        for (uint32_t v = 0; v < n; v++) {
+            if (u == v) continue;
+            if (measure == 1 && !(bare_spread(1u << u, both, n) >> v & 1)) return 0;
+            if (measure == 3 && arrival(words, n, k, u, v, 0) == k) return 0;
+            if (measure == 4 && !round_trip(words, n, k, u, v)) return 0;
+        }
+    }
+    return 1;
+}
+
+/* ---- few picks: every window once */
+
 void bare_open(bare *b, uint32_t n, uint32_t measure, const uint32_t *list) {
     memset(b, 0, sizeof *b);
     b->n = n;
@@ -29,56 +71,11 @@ void bare_open(bare *b, uint32_t n, uint32_t measure, const uint32_t *list) {
     if (measure == 2) memcpy(b->list, list, n * sizeof *list);
 }
 
-/* The first pick by whose end a message of u, sent from pick s on, is at v; BARE_PICKS where it is not by pick e. */
-static uint32_t arrival(const bare *b, uint32_t u, uint32_t v, uint32_t s, uint32_t e) {
-    uint32_t set = 1u << u;
-    for (uint32_t i = s; i <= e; i++) {
-        set = bare_spread(set, b->words[i], b->n);
-        if (set >> v & 1) return i;
-    }
-    return BARE_PICKS;
-}
-
-/* The last pick at which a message of v can leave that is at u by pick e; -1 where there is none from s on. */
-static int departure(const bare *b, uint32_t v, uint32_t u, uint32_t s, uint32_t e) {
-    for (int i = (int)e; i >= (int)s; i--)
-        if (arrival(b, v, u, (uint32_t)i, e) < BARE_PICKS) return i;
-    return -1;
-}
-
-static int round_trip(const bare *b, uint32_t u, uint32_t v, uint32_t s, uint32_t e) {
-    uint32_t there = arrival(b, u, v, s, e);
-    int back = departure(b, v, u, s, e);
-    return there < BARE_PICKS && back >= 0 && (int)there <= back;
-}
-
-/* Whether the window from pick s to pick e passes. */
-static int window_passes(const bare *b, uint32_t s, uint32_t e) {
-    uint32_t both[32], either[32];
-    memcpy(both, b->words[s], sizeof both);
-    memcpy(either, b->words[s], sizeof either);
-    for (uint32_t i = s + 1; i <= e; i++) {
-        for (uint32_t u = 0; u < b->n; u++) {
-            both[u] &= b->words[i][u];
-            either[u] |= b->words[i][u];
-        }
-    }
-    if (b->measure == 2) return memcmp(either, b->list, b->n * sizeof *either) == 0;
-    for (uint32_t u = 0; u < b->n; u++) {
-        for (uint32_t v = 0; v < b->n; v++) {
-            if (u == v) continue;
-            if (b->measure == 1 && !(bare_spread(1u << u, both, b->n) >> v & 1)) return 0;
-            if (b->measure == 3 && arrival(b, u, v, s, e) == BARE_PICKS) return 0;
-            if (b->measure == 4 && !round_trip(b, u, v, s, e)) return 0;
-        }
-    }
-    return 1;
-}
-
 void bare_pick(bare *b, const uint32_t *words) {
     uint32_t e = b->m++;
-    memcpy(b->words[e], words, b->n * sizeof *words);
-    for (uint32_t s = 0; s <= e; s++) b->pass[s][e] = (unsigned char)window_passes(b, s, e);
+    memcpy(b->words + e * b->n, words, b->n * sizeof *words);
+    for (uint32_t s = 0; s <= e; s++)
+        b->pass[s][e] = (unsigned char)window_passes(b->n, b->measure, b->list, b->words + s * b->n, e - s + 1);
 }
 
 static int all_pass(const bare *b, uint32_t k) {
@@ -93,4 +90,25 @@ uint32_t bare_length(const bare *b) {
         if (all_pass(b, k)) return k;
     }
     return 0;
+}
+
+/* ---- many picks: one length */
+
+/* Whether all windows of k pass. */
+static int will_do(uint32_t n, uint32_t measure, const uint32_t *list, const uint32_t *words, uint32_t m, uint32_t k) {
+    for (uint32_t s = 0; s + k <= m; s++)
+        if (!window_passes(n, measure, list, words + s * n, k)) return 0;
+    return 1;
+}
+
+int bare_is_length(uint32_t n, uint32_t measure, const uint32_t *list, const uint32_t *words, uint32_t m, uint32_t k) {
+    if (k > m || (k && !will_do(n, measure, list, words, m, k))) return 0;
+    if (measure == 1) {
+        for (uint32_t more = k + 1; more <= m; more++)
+            if (will_do(n, measure, list, words, m, more)) return 0;
+    } else {
+        for (uint32_t less = 1; less < (k ? k : m + 1); less++)
+            if (will_do(n, measure, list, words, m, less)) return 0;
+    }
+    return 1;
 }

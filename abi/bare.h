@@ -12,7 +12,7 @@ enum { BARE_PICKS = 64 };
 typedef struct {
     uint32_t n, measure, m;
     uint32_t list[32]; /* measure 2 */
-    uint32_t words[BARE_PICKS][32];
+    uint32_t words[BARE_PICKS * 32];
     unsigned char pass[BARE_PICKS][BARE_PICKS]; /* of the window from one pick to another, numbered from 0 */
 } bare;
 
@@ -27,4 +27,7 @@ void bare_pick(bare *b, const uint32_t *words);
 
 /* The length of the picks so far, 0 where there is none. */
 uint32_t bare_length(const bare *b);
+
+/* Whether k is the length of m picks, however many; k is 0 for none. Each other length is looked at only as far as needed. */
+int bare_is_length(uint32_t n, uint32_t measure, const uint32_t *list, const uint32_t *words, uint32_t m, uint32_t k);
 #endif

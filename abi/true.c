@@ -124,28 +124,51 @@ void test_true(uint32_t share) {
     }
 }
 
-/* Up to 4096 picks: against the walk as predicted, pick by pick and whole. */
+/* Picks at which a long run's length is held against the definition: a start far from pick 1, and both ends. */
+static int is_looked_at(uint32_t p, uint32_t last) {
+    return p == 1 || p == 2 || p == 50 || p == 1000 || p == 3000 || p == 3001 || p == last;
+}
+
+/*
+ * A pick of a long run. Measure 1: all links, but at times only a ring, one way round or the other; a window with both
+ * fails. The others: all links now and then, so that there is a length.
+ */
+static void next_long(uint32_t kind, uint32_t n, uint32_t measure, uint32_t p, uint32_t *words) {
+    uint32_t all = (1u << n) - 1, way = p % 400 < 200 ? 1 : n - 1;
+    next_pick(kind, n, p, words);
+    for (uint32_t u = 0; u < n; u++) {
+        if (measure == 1) words[u] = p % 23 ? all & ~(1u << u) : 1u << (u + way) % n;
+        else if (p % 29 == 0 || p % 31 == 0) words[u] = all & ~(1u << u);
+    }
+}
+
+/* Up to 4096 picks: at some picks against the definition, at all against the walk as predicted; then whole runs. */
 void test_long(uint32_t share) {
     static const struct {
         uint32_t n, measure, kind;
-    } runs[] = {{2, 1, 3}, {3, 1, 3}, {2, 2, 1}, {3, 2, 4}, {2, 3, 2}, {3, 3, 1}, {2, 4, 2}, {2, 4, 0}};
+    } runs[] = {{3, 1, 3}, {4, 1, 3}, {2, 2, 1}, {3, 2, 0}, {2, 3, 2}, {3, 3, 1}, {2, 4, 1}, {3, 4, 0}};
+    printf("long runs:");
     for (size_t i = 0; i < sizeof runs / sizeof *runs; i++) {
-        uint32_t n = runs[i].n, measure = runs[i].measure, limit = 4096 / share, list[3] = {6, 5, 3};
+        uint32_t n = runs[i].n, measure = runs[i].measure, limit = 4096 / share, list[4];
         size_t need = NOOKMALLOW_AREA_WORDS(n, measure, limit);
-        uint32_t *area = words_of(need), words[32] = {0};
-        if (n == 2) list[0] = 2, list[1] = 1;
+        uint32_t *area = words_of(need), *words = words_of((size_t)limit * n), length = 0;
+        for (uint32_t u = 0; u < n; u++) list[u] = ((1u << n) - 1) & ~(1u << u);
         nookmallow_handed h = call_open(n, measure, limit, list, n, area, need);
         for (uint32_t p = 1; p <= limit; p++) {
-            next_pick(runs[i].kind, n, p, words);
-            /* Picks without a single missing link for a long time: measure 1 comes far before it fails. */
-            if (measure == 1 && p % 97) memcpy(words, list, n * sizeof *list);
-            h = call_pick(h.place, area, need, words, n);
+            uint32_t *w = words + (p - 1) * n;
+            if (p > 1) memcpy(w, w - n, n * sizeof *w);
+            next_long(runs[i].kind, n, measure, p, w);
+            h = call_pick(h.place, area, need, w, n);
             CHECK(h.refusal == 0 && h.place.taken == p);
-            call_length(h.place);
+            length = call_length(h.place).length;
+            if (is_looked_at(p, limit)) CHECK(bare_is_length(n, measure, list, words, p, length));
         }
+        printf(" %lu", (unsigned long)length);
         CHECK(call_pick(h.place, area, need, words, n).refusal == 7);
         free(area);
+        free(words);
     }
+    printf("\n");
     for (uint32_t measure = 1; measure <= 4; measure++) {
         uint32_t n = measure == 4 ? 6 : 32, m = 4096 / share;
         size_t need = NOOKMALLOW_AREA_WORDS(n, measure, m);
