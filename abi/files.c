@@ -81,10 +81,8 @@ static void by_hand(void) {
         size_t count = from_hex(files[i].hex, bytes);
         uint32_t *out = words_of(files[i].room);
         nookmallow_reading r = call_read(bytes, count, files[i].limit, out, files[i].room);
-        if (r.refusal != files[i].refusal) {
-            differ("a file by hand");
+        if (r.refusal != files[i].refusal && differ("a file by hand"))
             printf("  %s: got %lu, want %lu\n", files[i].hex, (unsigned long)r.refusal, (unsigned long)files[i].refusal);
-        }
         if (i == 0) {
             static const uint32_t A[8] = {2, 0, 0, 1, 2, 0, 0, 1};
             CHECK(r.boards == 2 && r.picks == 4 && memcmp(out, A, sizeof A) == 0);

@@ -47,8 +47,12 @@ void next_pick(uint32_t kind, uint32_t n, uint32_t p, uint32_t *words) {
 
 /* ---- differences */
 
-void differ(const char *what) {
-    if (differences++ < 12) printf("DIFFERENCE after %lu calls: %s\n", calls_made, what);
+enum { PRINTED = 12 };
+
+int differ(const char *what) {
+    if (differences++ >= PRINTED) return 0;
+    printf("DIFFERENCE after %lu calls: %s\n", calls_made, what);
+    return 1;
 }
 
 static void print_words(const char *name, const uint32_t *w, size_t count) {
@@ -62,7 +66,7 @@ static int same_words(const char *name, const uint32_t *got, const uint32_t *wan
     if (count == 0 || memcmp(got, want, count * sizeof *got) == 0) return 1;
     size_t i = 0;
     while (got[i] == want[i]) i++;
-    if (differences < 12)
+    if (differences < PRINTED)
         printf("  %s word %zu: got %lx, want %lx\n", name, i, (unsigned long)got[i], (unsigned long)want[i]);
     return 0;
 }
@@ -149,8 +153,7 @@ nookmallow_handed call_open(uint32_t n, uint32_t measure, uint32_t limit, const 
     int good = settle("area", &a, want, area) & settle("list", &f, footprint, NULL);
     good &= same_words("answer", (uint32_t *)&h, (uint32_t *)&e, sizeof h / 4);
     saw(OPEN, h.refusal);
-    if (!good) {
-        differ("open");
+    if (!good && differ("open")) {
         printf("  n %lu measure %lu limit %lu area %zu\n", (unsigned long)n, (unsigned long)measure, (unsigned long)limit,
                area_len);
         print_words("list", footprint, footprint_len);
@@ -171,8 +174,7 @@ nookmallow_handed call_pick(nookmallow_place p, uint32_t *area, size_t area_len,
         differ("a refused pick changed something");
         good = 0;
     }
-    if (!good) {
-        differ("pick");
+    if (!good && differ("pick")) {
         print_words("place", (uint32_t *)&p, sizeof p / 4);
         print_words("pick", words, words_len);
         print_words("area", before, area_len);
@@ -185,10 +187,8 @@ nookmallow_handed call_pick(nookmallow_place p, uint32_t *area, size_t area_len,
 nookmallow_measured call_length(nookmallow_place p) {
     nookmallow_measured e = walk_length(p), r = nookmallow_length(p);
     saw(LENGTH, r.refusal);
-    if (!same_words("answer", (uint32_t *)&r, (uint32_t *)&e, sizeof r / 4)) {
-        differ("length");
+    if (!same_words("answer", (uint32_t *)&r, (uint32_t *)&e, sizeof r / 4) && differ("length"))
         print_words("place", (uint32_t *)&p, sizeof p / 4);
-    }
     return r;
 }
 
@@ -201,8 +201,7 @@ nookmallow_answer call_whole(uint32_t n, uint32_t measure, const uint32_t *words
     int good = settle("area", &a, want, area) & settle("words", &w, words, NULL);
     good &= same_words("answer", (uint32_t *)&r, (uint32_t *)&e, sizeof r / 4);
     saw(WHOLE, r.refusal);
-    if (!good) {
-        differ("whole");
+    if (!good && differ("whole")) {
         printf("  n %lu measure %lu area %zu\n", (unsigned long)n, (unsigned long)measure, area_len);
         print_words("words", words, words_len);
     }
@@ -217,8 +216,7 @@ uint32_t call_table(uint32_t n, const uint32_t *words, size_t words_len, uint32_
     uint32_t r = nookmallow_table(n, w.words, w.count, o.words, o.count);
     int good = settle("out", &o, want, out) & settle("words", &w, words, NULL);
     saw(TABLE, r);
-    if (!good || r != e) {
-        differ("table");
+    if ((!good || r != e) && differ("table")) {
         printf("  n %lu out %zu: got %lu, want %lu\n", (unsigned long)n, out_len, (unsigned long)r, (unsigned long)e);
         print_words("words", words, words_len);
     }
@@ -237,8 +235,7 @@ nookmallow_reading call_read(const uint8_t *bytes, size_t bytes_len, uint32_t li
     int good = settle("out", &o, want, out) & (bytes_len == 0 || memcmp(file, bytes, bytes_len) == 0);
     good &= same_words("answer", (uint32_t *)&r, (uint32_t *)&e, sizeof r / 4);
     saw(READ, r.refusal);
-    if (!good) {
-        differ("read");
+    if (!good && differ("read")) {
         printf("  limit %lu out %zu file", (unsigned long)limit, out_len);
         for (size_t i = 0; i < bytes_len && i < 200; i++) printf(" %02x", bytes[i]);
         printf("\n");

@@ -9,8 +9,8 @@
 uint32_t draw(void);
 uint32_t below(uint32_t k);
 
-/* Counts a difference and says what it was about; the first few are printed in full. */
-void differ(const char *what);
+/* Counts a difference and says what it was about. Only the first few are printed: whether this one was is answered. */
+int differ(const char *what);
 #define CHECK(x)                         \
     do {                                 \
         if (!(x)) differ(__FILE__ ": " #x); \

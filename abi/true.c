@@ -30,8 +30,7 @@ static void try_bad_pick(nookmallow_place p, uint32_t *area, size_t area_len, co
 static void check_figures(const bare *b, uint32_t refusal, uint32_t length, uint32_t compositions, uint32_t tests,
                           int is_whole) {
     uint32_t want = bare_length(b), m = b->m;
-    if (length != want || refusal != (want ? 0 : 9)) {
-        differ("a length is not that of the definition");
+    if ((length != want || refusal != (want ? 0 : 9)) && differ("a length is not that of the definition")) {
         printf("  n %lu measure %lu picks %lu: got %lu, want %lu\n", (unsigned long)b->n, (unsigned long)b->measure,
                (unsigned long)m, (unsigned long)length, (unsigned long)want);
     }
