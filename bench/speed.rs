@@ -1,0 +1,251 @@
+// Times the archive against the walk in hand-written Rust on the same recordings, and compares all that both answer and leave.
+// `speed compare` compares; `speed times` and `speed growth` print a line for each case; `speed lengths` says what the recordings are like;
+// `speed SIDE MEASURE RECORDING MODE PICKS TURNS` runs one case alone, for callgrind. SIDE plain is Rust with plain folds under measure 4.
+mod walk;
+
+use std::hint::black_box;
+use std::sync::atomic::Ordering;
+use std::time::Instant;
+use walk::{Answer, Handed, Measured, Place};
+
+#[link(name = "nookmallow", kind = "static")]
+extern "C" {
+    fn nookmallow_open(n: u32, measure: u32, limit: u32, list: *const u32, list_len: usize, area: *mut u32, area_len: usize) -> Handed;
+    fn nookmallow_pick(p: Place, area: *mut u32, area_len: usize, words: *const u32, words_len: usize) -> Handed;
+    fn nookmallow_length(p: Place) -> Measured;
+    fn nookmallow_whole(n: u32, measure: u32, words: *const u32, words_len: usize, area: *mut u32, area_len: usize) -> Answer;
+}
+
+#[derive(Clone, Copy, PartialEq)]
+enum Side {
+    Archive,
+    Rust,
+}
+
+impl Side {
+    fn open(self, n: u32, measure: u32, limit: u32, list: &[u32], area: &mut [u32]) -> Handed {
+        match self {
+            Side::Archive => unsafe { nookmallow_open(n, measure, limit, list.as_ptr(), list.len(), area.as_mut_ptr(), area.len()) },
+            Side::Rust => walk::open(n, measure, limit, list, area),
+        }
+    }
+
+    fn pick(self, p: Place, area: &mut [u32], words: &[u32]) -> Handed {
+        match self {
+            Side::Archive => unsafe { nookmallow_pick(p, area.as_mut_ptr(), area.len(), words.as_ptr(), words.len()) },
+            Side::Rust => walk::pick(p, area, words),
+        }
+    }
+
+    fn length(self, p: Place) -> Measured {
+        match self {
+            Side::Archive => unsafe { nookmallow_length(p) },
+            Side::Rust => walk::length(p),
+        }
+    }
+
+    fn whole(self, n: u32, measure: u32, words: &[u32], area: &mut [u32]) -> Answer {
+        match self {
+            Side::Archive => unsafe { nookmallow_whole(n, measure, words.as_ptr(), words.len(), area.as_mut_ptr(), area.len()) },
+            Side::Rust => walk::whole(n, measure, words, area),
+        }
+    }
+}
+
+// ---- recordings
+
+struct Rng(u64);
+
+impl Rng {
+    fn next(&mut self) -> u32 {
+        self.0 ^= self.0 << 13;
+        self.0 ^= self.0 >> 7;
+        self.0 ^= self.0 << 17;
+        (self.0 >> 32) as u32
+    }
+}
+
+// Which links are open at each pick, n words a pick:
+// sparse: each link in a pick with probability 1/64, some 15 links a pick, so that windows are tens to hundreds of picks long;
+// dense: each link with probability 1/2;
+// held: half of the links at first, and each link turns at a pick with probability 1/256, so that links stay for long.
+fn recording(kind: &str, n: usize, picks: usize, seed: u64) -> Vec<u32> {
+    let mut rng = Rng(seed);
+    let all = u32::MAX >> (32 - n);
+    let mut held = vec![0; n];
+    let mut words = Vec::new();
+    for p in 0..picks {
+        for u in 0..n {
+            let half = rng.next();
+            let mut few = rng.next();
+            for _ in 0..5 {
+                few &= rng.next();
+            }
+            let word = match kind {
+                "sparse" => few,
+                "dense" => half,
+                "held" => {
+                    held[u] ^= if p == 0 { half } else { few & rng.next() & rng.next() };
+                    held[u]
+                }
+                _ => panic!("no recording {kind}"),
+            };
+            words.push(word & all & !(1 << u));
+        }
+    }
+    words
+}
+
+fn union(words: &[u32], n: usize) -> Vec<u32> {
+    let mut list = vec![0; n];
+    for pick in words.chunks(n) {
+        list.iter_mut().zip(pick).for_each(|(l, w)| *l |= w);
+    }
+    list
+}
+
+// ---- runs
+
+fn width(measure: u32, n: usize) -> usize {
+    if measure == 4 { 2 * n * n } else { n }
+}
+
+// Opening, every pick, and the length after each: a sum of all that was answered.
+fn by_picks(side: Side, n: usize, measure: u32, words: &[u32], list: &[u32], area: &mut [u32]) -> (Answer, u64) {
+    let mut p = side.open(n as u32, measure, (words.len() / n) as u32, list, area).place;
+    let mut sum = 0u64;
+    let mut last = Answer::default();
+    for pick in words.chunks(n) {
+        p = side.pick(p, area, black_box(pick)).place;
+        last = side.length(p).answer;
+        sum = sum.wrapping_mul(31).wrapping_add(u64::from(last.length + 7 * last.refusal + 13 * last.compositions + 17 * last.tests));
+    }
+    (last, sum)
+}
+
+fn run(side: Side, mode: &str, n: usize, measure: u32, words: &[u32], list: &[u32], area: &mut [u32]) -> (Answer, u64) {
+    match mode {
+        "picks" => by_picks(side, n, measure, words, list, area),
+        "whole" => (side.whole(n as u32, measure, black_box(words), area), 0),
+        _ => panic!("no mode {mode}"),
+    }
+}
+
+// Both sides on one recording: every answer, every place and the words that a pick may write after each pick, all words at the end; then
+// the whole run. `altered` changes words between picks, which both sides must compose as they find them.
+fn compare(n: usize, measure: u32, words: &[u32], altered: bool) {
+    let list = union(words, n);
+    let (limit, e) = (words.len() / n, width(measure, n));
+    let len = (limit + 4) * e + 3;
+    let mut rng = Rng(77);
+    let (mut a, mut b) = (vec![0xdead; len], vec![0xdead; len]);
+    let mut p = Side::Archive.open(n as u32, measure, limit as u32, &list, &mut a);
+    assert_eq!(p, Side::Rust.open(n as u32, measure, limit as u32, &list, &mut b));
+    for (k, pick) in words.chunks(n).enumerate() {
+        if altered && k % 5 == 4 {
+            let at = rng.next() as usize % ((limit + 2) * e);
+            a[at] = rng.next() >> (rng.next() % 32);
+            b[at] = a[at];
+        }
+        let q = p.place;
+        p = Side::Archive.pick(q, &mut a, pick);
+        assert_eq!(p, Side::Rust.pick(q, &mut b, pick), "measure {measure} n {n} pick {k}");
+        assert_eq!(p.refusal, 0);
+        assert_eq!(Side::Archive.length(p.place), Side::Rust.length(p.place));
+        let (from, to) = (q.start as usize - 1, k + 1);
+        assert!(a[from * e..to * e] == b[from * e..to * e] && a[limit * e..] == b[limit * e..], "measure {measure} n {n} pick {k}: area");
+    }
+    assert!(a == b, "measure {measure} n {n}: area");
+    let (mut c, mut d) = (vec![0xbeef; len], vec![0xbeef; len]);
+    let whole = Side::Archive.whole(n as u32, measure, words, &mut c);
+    assert_eq!(whole, Side::Rust.whole(n as u32, measure, words, &mut d), "measure {measure} n {n} whole");
+    assert!(c == d && c[..len - 3].iter().all(|w| *w == 0) && c[len - 3..] == [0xbeef; 3]);
+}
+
+// Measure 1 on the sparse recording ends at its first pick: what is left is the checks.
+const CASES: [(u32, &str); 9] =
+    [(1, "held"), (1, "dense"), (1, "sparse"), (2, "sparse"), (2, "dense"), (3, "sparse"), (3, "dense"), (4, "sparse"), (4, "dense")];
+const MODES: [&str; 2] = ["whole", "picks"];
+const N: usize = 32;
+const SEED: u64 = 0x9e3779b97f4a7c15;
+
+// Nanoseconds a pick of each side, the best of several turns that take the sides one after the other, so that both meet the same
+// disturbances of the machine.
+fn times(sides: &[Side], measure: u32, kind: &str, mode: &str, picks: usize) -> Vec<f64> {
+    let words = recording(kind, N, picks, SEED);
+    let list = union(&words, N);
+    let mut area = vec![0; (picks + 4) * width(measure, N)];
+    let mut best = vec![f64::MAX; sides.len()];
+    let began = Instant::now();
+    let mut turns = 0;
+    while turns < 5 || turns < 40 && began.elapsed().as_secs_f64() < 1.0 {
+        let mut got = Vec::new();
+        for (side, best) in sides.iter().zip(&mut best) {
+            let began = Instant::now();
+            got.push(run(*side, mode, N, measure, &words, &list, &mut area));
+            *best = best.min(began.elapsed().as_nanos() as f64 / picks as f64);
+        }
+        assert!(got.iter().all(|x| *x == got[0]));
+        turns += 1;
+    }
+    best
+}
+
+fn compare_all() {
+    for seed in 1..60 {
+        for (measure, kind) in CASES {
+            let boards = 2 + seed as usize * 7 % 31;
+            let words = recording(kind, boards, 90, SEED ^ seed);
+            compare(boards, measure, &words, false);
+            compare(boards, measure, &words, true);
+        }
+    }
+    for (measure, kind) in CASES {
+        compare(N, measure, &recording(kind, N, 4096, SEED), false);
+    }
+}
+
+fn main() {
+    let args: Vec<String> = std::env::args().skip(1).collect();
+    let words: Vec<&str> = args.iter().map(String::as_str).collect();
+    match words[..] {
+        ["compare"] => compare_all(),
+        ["times"] => {
+            for (measure, kind) in CASES {
+                for mode in MODES {
+                    let best = times(&[Side::Archive, Side::Rust], measure, kind, mode, 4096);
+                    println!("{measure} {kind} {mode} {:.1} {:.1} {:.2}", best[0], best[1], best[0] / best[1]);
+                }
+            }
+        }
+        ["growth"] => {
+            for (measure, kind) in CASES {
+                for mode in MODES {
+                    let best: Vec<String> =
+                        [1024, 2048, 4096].iter().map(|p| format!("{:.1}", times(&[Side::Archive], measure, kind, mode, *p)[0])).collect();
+                    println!("{measure} {kind} {mode} {}", best.join(" "));
+                }
+            }
+        }
+        ["lengths"] => {
+            for (measure, kind) in CASES {
+                let words = recording(kind, N, 4096, SEED);
+                let mut area = vec![0; 4100 * width(measure, N)];
+                let got = Side::Rust.whole(N as u32, measure, &words, &mut area);
+                println!("{measure} {kind} {} {} {}", got.length, got.compositions, got.tests);
+            }
+        }
+        [side, measure, kind, mode, picks, turns] => {
+            walk::PLAIN.store(side == "plain", Ordering::Relaxed);
+            let side = if side == "archive" { Side::Archive } else { Side::Rust };
+            let (measure, picks): (u32, usize) = (measure.parse().unwrap(), picks.parse().unwrap());
+            let words = recording(kind, N, picks, SEED);
+            let list = union(&words, N);
+            let mut area = vec![0; (picks + 4) * width(measure, N)];
+            for _ in 0..turns.parse().unwrap() {
+                black_box(run(side, mode, N, measure, &words, &list, &mut area));
+            }
+        }
+        _ => panic!("compare, times, growth, lengths, or SIDE MEASURE RECORDING MODE PICKS TURNS"),
+    }
+}
