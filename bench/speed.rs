@@ -169,23 +169,22 @@ const MODES: [&str; 2] = ["whole", "picks"];
 const N: usize = 32;
 const SEED: u64 = 0x9e3779b97f4a7c15;
 
-// Nanoseconds a pick of each side, the best of several turns that take the sides one after the other, so that both meet the same
-// disturbances of the machine.
-fn times(sides: &[Side], measure: u32, kind: &str, mode: &str, picks: usize) -> Vec<f64> {
-    let words = recording(kind, N, picks, SEED);
-    let list = union(&words, N);
-    let mut area = vec![0; (picks + 4) * width(measure, N)];
-    let mut best = vec![f64::MAX; sides.len()];
+// Nanoseconds a pick of each run, a side and a number of picks: the best of several turns that take the runs one after the other, so that
+// all of them meet the same disturbances of the machine.
+fn times(runs: &[(Side, usize)], measure: u32, kind: &str, mode: &str) -> Vec<f64> {
+    let most = runs.iter().map(|r| r.1).max().unwrap();
+    let words = recording(kind, N, most, SEED);
+    let lists: Vec<Vec<u32>> = runs.iter().map(|r| union(&words[..r.1 * N], N)).collect();
+    let mut area = vec![0; (most + 4) * width(measure, N)];
+    let mut best = vec![f64::MAX; runs.len()];
     let began = Instant::now();
     let mut turns = 0;
-    while turns < 5 || turns < 40 && began.elapsed().as_secs_f64() < 1.0 {
-        let mut got = Vec::new();
-        for (side, best) in sides.iter().zip(&mut best) {
+    while turns < 9 || turns < 60 && began.elapsed().as_secs_f64() < 1.5 {
+        for (((side, picks), list), best) in runs.iter().zip(&lists).zip(&mut best) {
             let began = Instant::now();
-            got.push(run(*side, mode, N, measure, &words, &list, &mut area));
-            *best = best.min(began.elapsed().as_nanos() as f64 / picks as f64);
+            black_box(run(*side, mode, N, measure, &words[..picks * N], list, &mut area));
+            *best = best.min(began.elapsed().as_nanos() as f64 / *picks as f64);
         }
-        assert!(got.iter().all(|x| *x == got[0]));
         turns += 1;
     }
     best
@@ -201,7 +200,14 @@ fn compare_all() {
         }
     }
     for (measure, kind) in CASES {
-        compare(N, measure, &recording(kind, N, 4096, SEED), false);
+        let words = recording(kind, N, 4096, SEED);
+        compare(N, measure, &words, false);
+        let list = union(&words, N);
+        let mut area = vec![0; 4100 * width(measure, N)];
+        for mode in MODES {
+            let [a, b] = [Side::Archive, Side::Rust].map(|side| run(side, mode, N, measure, &words, &list, &mut area));
+            assert_eq!(a, b);
+        }
     }
 }
 
@@ -213,7 +219,7 @@ fn main() {
         ["times"] => {
             for (measure, kind) in CASES {
                 for mode in MODES {
-                    let best = times(&[Side::Archive, Side::Rust], measure, kind, mode, 4096);
+                    let best = times(&[(Side::Archive, 4096), (Side::Rust, 4096)], measure, kind, mode);
                     println!("{measure} {kind} {mode} {:.1} {:.1} {:.2}", best[0], best[1], best[0] / best[1]);
                 }
             }
@@ -221,9 +227,8 @@ fn main() {
         ["growth"] => {
             for (measure, kind) in CASES {
                 for mode in MODES {
-                    let best: Vec<String> =
-                        [1024, 2048, 4096].iter().map(|p| format!("{:.1}", times(&[Side::Archive], measure, kind, mode, *p)[0])).collect();
-                    println!("{measure} {kind} {mode} {}", best.join(" "));
+                    let best = times(&[1024, 2048, 4096].map(|picks| (Side::Archive, picks)), measure, kind, mode);
+                    println!("{measure} {kind} {mode} {:.1} {:.1} {:.1}", best[0], best[1], best[2]);
                 }
             }
         }
