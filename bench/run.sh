@@ -1,6 +1,6 @@
 #!/bin/bash
 # Times the archive against the walk in hand-written Rust (walk.rs) and prints a table; then how the cost of a pick grows with the recording.
-# Its output is in target/bench. Needs rustc and valgrind. Takes some three minutes, the proof of the archive not counted.
+# Its output is in target/bench. Needs rustc and valgrind. Takes one to two minutes, the proof of the archive not counted.
 set -euo pipefail
 cd "$(dirname "$0")/.."
 archive=target/staticlib/libnookmallow.a
@@ -18,7 +18,6 @@ export GLIBC_TUNABLES=glibc.cpu.x86_rep_stosb_threshold=1000000000:glibc.cpu.x86
 count() { valgrind --tool=callgrind --callgrind-out-file=/dev/null "$speed" "$@" 2>&1 | awk '/Collected/ {print $NF}'; }
 instructions() { # SIDE MEASURE RECORDING MODE
     local picks=1024
-    [ "$2" != 4 ] || picks=256
     echo $((($(count "$@" $picks 1) - $(count "$@" $picks 0)) / picks))
 }
 
