@@ -190,7 +190,82 @@ fn times(runs: &[(Side, usize)], measure: u32, kind: &str, mode: &str) -> Vec<f6
     best
 }
 
+// Both sides refuse the same calls with the same numbers, and leave the area as it was.
+fn compare_refusals() {
+    let words = recording("sparse", 5, 6, SEED);
+    let list = union(&words, 5);
+    let mut seen = [false; 17];
+    let mut open = |n, measure, limit, list: &[u32], len: usize| {
+        let (mut a, mut b) = (vec![7; len], vec![7; len]);
+        let got = Side::Archive.open(n, measure, limit, list, &mut a);
+        assert_eq!(got, Side::Rust.open(n, measure, limit, list, &mut b));
+        assert!(a == b && (got.refusal == 0 || a.iter().all(|w| *w == 7)));
+        seen[got.refusal as usize] = true;
+    };
+    for n in [0, 1, 2, 5, 32, 33, u32::MAX] {
+        for measure in [0, 1, 2, 3, 4, 5] {
+            for limit in [0, 1, 6, 4096, 4097] {
+                for len in [0, 49, 50, 499, 500] {
+                    open(n, measure, limit, &list, len);
+                    open(n, measure, limit, &list[1..], len);
+                    open(n, measure, limit, &[1, 0, 0, 0, 0], len);
+                }
+            }
+        }
+    }
+    let mut whole = |n, measure, words: &[u32], len: usize| {
+        let (mut a, mut b) = (vec![7; len], vec![7; len]);
+        let got = Side::Archive.whole(n, measure, words, &mut a);
+        assert_eq!(got, Side::Rust.whole(n, measure, words, &mut b));
+        assert!(a == b);
+        seen[got.refusal as usize] = true;
+    };
+    for n in [1, 2, 5, 32, 33] {
+        for measure in [0, 1, 2, 3, 4, 5] {
+            for len in [0, 49, 50, 499, 500] {
+                whole(n, measure, &words, len);
+                whole(n, measure, &[], len);
+                whole(n, measure, &[31; 30], len);
+                whole(n, measure, &vec![0; 4097 * 2], len);
+            }
+        }
+    }
+    let mut rng = Rng(SEED);
+    for _ in 0..20000 {
+        // a place near those that a walk goes through, with one of its words changed
+        let measure = 1 + rng.next() % 4;
+        let taken = rng.next() % 7;
+        let mut p = Place { boards: 5, measure, limit: 6, taken, start: 1, boundary: 0, failed: 0, passed: 0, compositions: taken, tests: taken };
+        let x = [0, 1, 2, 5, 6, 7, 33, 4097, u32::MAX][rng.next() as usize % 9];
+        match rng.next() % 11 {
+            0 => p.boards = x,
+            1 => p.measure = x,
+            2 => p.limit = x,
+            3 => p.taken = x,
+            4 => p.start = x,
+            5 => p.boundary = x,
+            6 => p.failed = x,
+            7 => p.passed = x,
+            8 => p.compositions = x,
+            9 => p.tests = x,
+            _ => {}
+        }
+        assert_eq!(Side::Archive.length(p), Side::Rust.length(p));
+        let len = [0, 49, 50, 499, 500][rng.next() as usize % 5];
+        let pick: &[u32] = [&words[..5], &words[..4], &[1, 0, 0, 0, 0], &[2, 0, 0, 0, 0]][rng.next() as usize % 4];
+        let (mut a, mut b) = (vec![0; len], vec![0; len]);
+        let got = Side::Archive.pick(p, &mut a, pick);
+        assert_eq!(got, Side::Rust.pick(p, &mut b, pick), "{p:?}");
+        assert!(a == b && (got.refusal == 0 || a.iter().all(|w| *w == 0)));
+        seen[got.refusal as usize] = true;
+        seen[Side::Archive.length(p).answer.refusal as usize] = true;
+    }
+    // all causes but those of recording files
+    assert!((0..17).all(|cause| seen[cause] || (11..16).contains(&cause)), "{seen:?}");
+}
+
 fn compare_all() {
+    compare_refusals();
     for seed in 1..60 {
         for (measure, kind) in CASES {
             let boards = 2 + seed as usize * 7 % 31;
