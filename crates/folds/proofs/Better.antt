@@ -1,11 +1,11 @@
 -- The better of two times: the words of it, and its laws. Assumes nothing.
-use mathlib.Core.Path.{_≡_, refl, sym, ap, _∙_}
+use mathlib.Core.Path.{_≡_, refl, sym, _∙_}
 use mathlib.Core.Bool.{Bool, true, false}
 use Prim.Native.Nat.{ℕ, zero, suc, _+_, _%_, _≤_, _<_, _^_, min, max}
 use native.Mathlib.Omega.{arith}
 use lib.Dec.{eqb, leb, eqb·suc-zero, leb·suc-zero}
-use borrow.Author.Tests.{eqb-true, eqb-false, leb-true, leb-false, eq-eqb, ne-eqb, le-leb, lt-leb}
-use Rattle.times.specs.Times.{choose, sooner, later, after}
+use borrow.Author.Tests.{eqb-true, eqb-false, leb-true, leb-false, le-leb, lt-leb}
+use Rattle.times.specs.Times.{choose, sooner, later}
 use Rattle.folds.specs.Folds.{better}
 
 -- ---- the earlier time, by words less one

@@ -2,19 +2,18 @@
 use mathlib.Core.Path.{_≡_, refl, sym, ap, ap₂, _∙_, subst}
 use mathlib.Core.Bool.{Bool, true, false, not, _&&_, _||_}
 use mathlib.Core.List.{List, _++_}
-use Prim.Native.Nat.{ℕ, zero, suc, _+_, _-_, _*_, _^_, _≤_, _<_}
+use Prim.Native.Nat.{ℕ, zero, suc, _+_, _-_, _*_, _≤_, _<_}
 use native.Mathlib.Numerals.{add-one}
-use native.Mathlib.Nat.{add-sub-cancel-left, sub-zero, suc-mul, mul-le-mul, mul-le-mul-right, le-refl, eq-or-lt-of-le, le-of-suc-le-suc}
+use native.Mathlib.Nat.{add-sub-cancel-left, suc-mul, mul-le-mul, mul-le-mul-right, le-refl, eq-or-lt-of-le, le-of-suc-le-suc}
 use mathlib.Core.Logic.{⊎-elim}
 use borrow.Author.Tests.{eq-eqb, ne-eqb, eqb-true, eqb-false}
 use native.Mathlib.Omega.{arith}
-use lib.Bits.{bitAnd, bitOr}
-use lib.Dec.{eqb, ltb}
+use lib.Dec.{eqb}
 use lib.ListN.{length, getD, take, drop, List·getD-append}
-use lib.Seq.{ext-getD, take-at, getD-take, getD-drop}
+use lib.Seq.{ext-getD, getD-take, getD-drop}
 use Rattle.model.specs.Recording.{bit}
-use Rattle.lists.specs.Tab.{tab, zeros, padded, kept}
-use Rattle.lists.proofs.Tab.{length-tab, getD-tab, tab-ext, tab-zero, take-padded}
+use Rattle.lists.specs.Tab.{tab, zeros, kept}
+use Rattle.lists.proofs.Tab.{length-tab, getD-tab, tab-ext, tab-zero}
 use Rattle.times.specs.Times.{cell, rows, choose, sooner, later, after, apart, arriveBy, arrival, arrivals, departBy, departure, departures}
 use Rattle.times.proofs.Rows.{row-le, part-length, Rowed}
 use Rattle.times.proofs.Cells.{length-rows, cell-rows}
@@ -67,15 +66,6 @@ pub same-fold : (late : Bool) (n : ℕ) (t sets : List ℕ) (u : ℕ) (folds : L
 same-fold late n t sets u folds k s h e =
     let b : k < n = omega (arith, s .below) in
     lent-row n k folds _ (omega (arith, row-le n b, s .room)) (λ v l. s .made k v h l ∙ ap (λ (x : ℕ). gather late n t x n v) e)
-
--- a fold in the first n words of a local array
-pub new-fold : (n : ℕ) (f : ℕ → ℕ) (x r : List ℕ) → r ≡ zeros 32 → x ≡ tab f n → x ++ drop (n - 0) r ≡ padded 32 (tab f n)
-unfolding padded
-new-fold n f x r e q = ap₂ (λ (a b : List ℕ). a ++ b) q (ap₂ drop (sub-zero n ∙ sym (length-tab f n)) e)
-
--- and as it is lent
-pub fold-lent : (n : ℕ) (f : ℕ → ℕ) (r : List ℕ) → r ≡ padded 32 (tab f n) → take (n - 0) r ≡ tab f n
-fold-lent n f r e = ap₂ take (sub-zero n) e ∙ take-padded 32 n (tab f n) (length-tab f n)
 
 -- the folds below u are made
 pub shared : {late : Bool} {n : ℕ} {t sets folds₀ folds : List ℕ} {u : ℕ} → n ≤ 32 → n ≤ length sets → n * n ≤ length t → u < n
@@ -188,10 +178,6 @@ crossed-rows late n s t sets folds e f = rows-ext n _ _ n row
 
 pub square : {n : ℕ} → n ≤ 32 → n * n ≤ 1024
 square h = mul-le-mul h h
-
--- the first k words of a local array, written and lent again
-pub lent-again : (k : ℕ) (x y r : List ℕ) → x ≡ y → length y ≡ k → take (k - 0) (x ++ drop (k - 0) r) ≡ y
-lent-again k x y r e l = rw (sub-zero, e) (take-at y (drop k r) k l)
 
 -- ---- the two halves of a table
 

@@ -11,11 +11,10 @@ use mathlib.Core.Logic.{⊎-elim}
 use borrow.Author.Tests.{eq-eqb, ne-eqb, eqb-true}
 use Rattle.model.proofs.Bits.{bit-high, bit-or, bit-and, bit-one}
 use Rattle.links.proofs.Bits.{bit-kept}
-use lib.Dec.{eqb, ltb}
+use lib.Dec.{eqb}
 use lib.ListN.{getD, take, drop}
 use lib.Seq.{getD-take, getD-drop}
 use Rattle.model.specs.Recording.{bit}
-use Rattle.lists.specs.Tab.{kept}
 use Rattle.times.specs.Times.{cell}
 use Rattle.folds.specs.Folds.{markOf, anyOf, marks, someOf, setOf}
 

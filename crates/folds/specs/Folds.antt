@@ -2,11 +2,11 @@
 -- later time is the better one; for arrivals it is the earlier one.
 use mathlib.Core.Path.{_≡_}
 use mathlib.Core.Bool.{Bool, true, false, not}
-use mathlib.Core.List.{List}
-use Prim.Native.Nat.{ℕ, zero, suc, _*_, _^_, _≤_, _<_}
+use mathlib.Core.List.{List, _++_}
+use Prim.Native.Nat.{ℕ, zero, suc, _+_, _-_, _*_, _^_, _≤_, _<_}
 use lib.Bits.{bitAnd, bitOr}
 use lib.Dec.{eqb}
-use lib.ListN.{length, getD}
+use lib.ListN.{length, getD, take, drop}
 use Rattle.model.specs.Recording.{bit}
 use Rattle.lists.specs.Tab.{kept}
 use Rattle.times.specs.Times.{cell, sooner, later, after, apart}
@@ -14,6 +14,13 @@ use Rattle.times.specs.Times.{cell, sooner, later, after, apart}
 -- op of the words at v
 abbrev pub each : (ℕ → ℕ → ℕ) → List ℕ → List ℕ → ℕ → ℕ
 each op xs ys v = op (getD xs v 0) (getD ys v 0)
+
+-- row u of n words, as it is lent, and what a table is when it was written
+abbrev pub rowAt : ℕ → List ℕ → ℕ → List ℕ
+rowAt n t u = take (u * n + n - u * n) (drop (u * n) t)
+
+abbrev pub putRow : ℕ → List ℕ → ℕ → List ℕ → List ℕ
+putRow n t u row = take (u * n) t ++ (row ++ drop (u * n + n - u * n) (drop (u * n) t))
 
 -- the better of two times, 0 for none
 unfoldable pub better : Bool → ℕ → ℕ → ℕ

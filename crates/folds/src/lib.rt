@@ -7,7 +7,7 @@ ghost use Prim.Native.Nat.{_+_, _*_, _≤_, _<_};
 ghost use lib.ListN.{length, getD};
 ghost use Rattle.lists.specs.Tab.{tab, zeros, padded};
 ghost use Rattle.times.specs.Times.{cell, rows, sooner, later, arrivals, departures, composeTimes};
-ghost use Rattle.folds.specs.Folds.{each, better, betterIf, gather, foldOf, joinedRow, markOf, anyOf, marks, someOf, setOf, crossed, Shared};
+ghost use Rattle.folds.specs.Folds.{each, better, betterIf, rowAt, putRow, gather, foldOf, joinedRow, markOf, anyOf, marks, someOf, setOf, crossed, Shared};
 use model::Board;
 
 // ---- a row taken in
@@ -170,27 +170,47 @@ fn fold_set(out: &mut [u32], later: &[u32], n: usize, set: u32, late: bool)
     }
 }
 
-// The fold of row u by value, and zeros up to 32: that of an earlier row with the same set, where there is one.
-fn fold_of(
-    folds: &[u32],
-    later: &[u32],
-    sets: &[u32],
-    n: usize,
-    own: Board,
-    late: bool,
-) -> [u32; 32]
+// The fold of one set.
+fn fold_row(out: &mut [u32], later: &[u32], n: usize, set: u32, late: bool)
+    requires { ⌜ (n ≤ 32) × ((n ≡ length (now out)) × (n * n ≤ length (now later))) ⌝ }
+    ensures { λ _. ⌜ now (out .exit) ≡ tab (gather late n (now (later .entry)) set n) n ⌝ }
+{
+    lists::zero_over(out, n);
+    fold_set(out, later, n, set, late);
+}
+
+// Row d becomes row l, through a lent row: a part that is written and one that is read cannot be lent together.
+fn share_by(folds: &mut [u32], row: &mut [u32], n: usize, d: Board, l: Board)
+    requires { ⌜ (d .0 < n) × ((l .0 < n) × ((n ≡ length (now row)) × (n * n ≤ length (now folds)))) ⌝ }
+    ensures { λ _. ⌜ now (folds .exit) ≡ putRow n (now (folds .entry)) (d .0) (rowAt n (now (folds .entry)) (l .0)) ⌝ }
+{
+    let from = l.0 * n;
+    let at = d.0 * n;
+    lists::copy_over(row, &folds[from..from + n], n);
+    lists::copy_over(&mut folds[at..at + n], row, n);
+}
+
+fn share(folds: &mut [u32], n: usize, d: Board, l: Board)
+    requires { ⌜ (n ≤ 32) × ((d .0 < n) × ((l .0 < n) × (n * n ≤ length (now folds)))) ⌝ }
+    ensures { λ _. ⌜ now (folds .exit) ≡ putRow n (now (folds .entry)) (d .0) (rowAt n (now (folds .entry)) (l .0)) ⌝ }
+{
+    let mut row = lists::no_words();
+    share_by(folds, &mut row[0..n], n, d, l);
+}
+
+// The fold of row u: that of an earlier row with the same set, where there is one.
+fn write_fold(folds: &mut [u32], later: &[u32], sets: &[u32], n: usize, own: Board, late: bool)
     requires { ⌜ Shared late n (now later) (now sets) (own .0) (now folds) ⌝ }
-    ensures { λ r. ⌜ r ≡ padded 32 (tab (foldOf late n (now (later .entry)) (now (sets .entry)) (own .0)) n) ⌝ }
+    ensures { λ _. ⌜ now (folds .exit) ≡ putRow n (now (folds .entry)) (own .0) (tab (foldOf late n (now (later .entry)) (now (sets .entry)) (own .0)) n) ⌝ }
 {
     let u = own.0;
     let k = first_same(sets, u);
     if k < u {
-        let at = k * n;
-        return lists::load(&folds[at..at + n], n);
+        share(folds, n, own, Board(k));
+        return;
     }
-    let mut out = lists::no_words();
-    fold_set(&mut out[0..n], later, n, sets[u], late);
-    out
+    let at = u * n;
+    fold_row(&mut folds[at..at + n], later, n, sets[u], late);
 }
 
 // The folds of all rows.
@@ -199,9 +219,7 @@ fn fold_rows(folds: &mut [u32], later: &[u32], sets: &[u32], n: usize, late: boo
     ensures { λ _. ⌜ now (folds .exit) ≡ rows n (foldOf late n (now (later .entry)) (now (sets .entry))) n ⌝ }
 {
     for u in 0..n {
-        let row = fold_of(folds, later, sets, n, Board(u), late);
-        let at = u * n;
-        lists::copy_over(&mut folds[at..at + n], &row[0..n], n);
+        write_fold(folds, later, sets, n, Board(u), late);
     }
 }
 

@@ -1,13 +1,13 @@
 -- Every number that the calls answer fits a word of 32 bits, so none is cut short on its way to C. Assumes nothing.
 use mathlib.Core.Path.{_≡_, refl, sym, ap, ap₂, _∙_, subst}
 use mathlib.Core.Bool.{Bool, true, false, _&&_, not}
-use mathlib.Core.Option.{Option, none, some}
+use mathlib.Core.Option.{none, some}
 use mathlib.Core.List.{List}
-use Prim.Native.Nat.{ℕ, zero, suc, _+_, _-_, _/_, _≤_, _<_, _^_, zero-le}
+use Prim.Native.Nat.{ℕ, zero, suc, _+_, _-_, _/_, _≤_, _<_, _^_}
 use native.Mathlib.Nat.{lt-of-le-of-lt, le-refl}
 use native.Mathlib.Numerals.{add-one}
 use native.Mathlib.Omega.{arith}
-use lib.Dec.{T, eqb, eqb→eq, leb, ltb, lit<}
+use lib.Dec.{eqb, eqb→eq, ltb, lit<}
 use lib.ListN.{length}
 use borrow.Author.Tests.{leb-true}
 use Rattle.model.specs.declared.Refusal.{Refusal}
@@ -19,11 +19,11 @@ use Rattle.measures.specs.Kit.{Kit, kit, either}
 use Rattle.place.specs.declared.Place.{Place}
 use Rattle.place.specs.Places.{fresh, nowhere, charged, soundPlace, Sound}
 use Rattle.place.proofs.Laws.{sound-says, and-left, and-right}
-use Rattle.steps.specs.Walk.{State, state, kitOf, stepped, reported}
+use Rattle.steps.specs.Walk.{State, kitOf, stepped, reported}
 use Rattle.steps.proofs.Ready.{Stepped, stepped-grown, sound-ready}
-use Rattle.calls.specs.Answers.{Handed, handed, Outcome, outcome}
-use Rattle.calls.specs.Calls.{openVerdict, openSays, openedArea, pickVerdict, pickState, pickSays, pickLeaves, reportSays, lengthSays, wholeVerdict, unions, stepsOf, wholeStart, wholeAfter, wholeReport, wholeSays}
-use Rattle.calls.specs.Fit.{Takes, Runs, Starts}
+use Rattle.calls.specs.Answers.{Handed, handed, outcome}
+use Rattle.calls.specs.Calls.{openVerdict, openSays, pickVerdict, pickSays, pickLeaves, reportSays, lengthSays, wholeVerdict, unions, stepsOf, wholeStart, wholeAfter, wholeReport, wholeSays}
+use Rattle.calls.specs.Fit.{Runs, Starts}
 use Rattle.calls.proofs.Verdicts.{open-sound, pick-sound, whole-sound, taken-state, refused-state, number-some}
 use Rattle.calls.proofs.Opened.{opened-length}
 use Rattle.steps.proofs.Frames.{either-ind}

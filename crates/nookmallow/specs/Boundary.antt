@@ -8,8 +8,8 @@ use Rattle.model.specs.Journey.{val}
 use Rattle.measures.specs.Kit.{either}
 use Rattle.place.specs.declared.Place.{Place}
 use Rattle.calls.specs.Answers.{Handed, Outcome, outcome}
-use Rattle.calls.specs.Calls.{openSays, openLeaves, pickSays, pickLeaves, lengthSays, wholeSays, wholeLeaves}
-use Rattle.recording.specs.Answers.{Read, readSays}
+use Rattle.calls.specs.Calls.{pickSays, pickLeaves, lengthSays}
+use Rattle.recording.specs.Answers.{Read}
 use Rattle.nookmallow.specs.declared.PlaceWords.{PlaceWords}
 use Rattle.nookmallow.specs.declared.HandedWords.{HandedWords}
 use Rattle.nookmallow.specs.declared.AnswerWords.{AnswerWords}

@@ -2,17 +2,17 @@
 use mathlib.Core.Path.{_≡_, refl, ap, _∙_, sym}
 use mathlib.Core.Bool.{Bool, true, false}
 use mathlib.Core.List.{List, _++_, append-nil, append-assoc}
-use Prim.Native.Nat.{ℕ, zero, suc, _+_, _*_, _-_, _≤_, _<_, zero-le}
+use Prim.Native.Nat.{ℕ, suc, _+_, _*_, _-_, _≤_, _<_, zero-le}
 use native.Mathlib.Numerals.{add-one}
 use native.Mathlib.Nat.{add-zero, sub-zero, zero-mul, suc-mul, mul-le-mul-right, le-of-eq, add-sub-cancel-left}
 use native.Mathlib.Omega.{arith}
-use lib.Dec.{eqb, leb, eqb·suc-zero, leb·suc-zero}
+use lib.Dec.{eqb, leb}
 use lib.ListN.{length, take, drop, set, getD, length-append, length-drop, length-set, drop-of-length-le}
-use lib.Seq.{take-at, drop-at, drop-drop, take-all, length-take-le, getD-take, getD-drop, getD-set-same, getD-set-other, ext-getD}
-use borrow.Author.Tests.{eqb-true, eqb-false, ne-eqb}
+use lib.Seq.{take-at, drop-at, drop-drop, take-all, length-take-le, getD-drop, getD-set-same, getD-set-other, ext-getD}
+use borrow.Author.Tests.{eqb-true, eqb-false}
 use Rattle.lists.specs.Tab.{tab}
-use Rattle.lists.proofs.Tab.{length-tab, getD-tab, tab-ext}
-use Rattle.times.specs.Times.{rows, sooner, later, after, apart, choose, arr, inTime}
+use Rattle.lists.proofs.Tab.{length-tab, getD-tab}
+use Rattle.times.specs.Times.{rows, after, apart, choose, arr, inTime}
 use Rattle.times.proofs.Cells.{length-rows}
 
 -- ---- places

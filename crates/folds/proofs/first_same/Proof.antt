@@ -1,7 +1,7 @@
 -- `folds::first_same` meets its contract.
 -- Assumes nothing.
 use Prim.Native.Nat.{_-_, _≤_}
-use mathlib.Core.Path.{_≡_, refl, sym, _∙_}
+use mathlib.Core.Path.{_≡_}
 use lib.ListN.{getD}
 use borrow.Author.Needs.{needs}
 use Rattle.folds.proofs.first_same.Statement.{statement}

@@ -1,6 +1,6 @@
 -- `folds::some_rows` meets its contract. The invariant is the definition at w; a lent row is `any-lent`.
 -- Assumes nothing.
-use mathlib.Core.Path.{_≡_, sym, ap, ap₂, _∙_}
+use mathlib.Core.Path.{_≡_, ap, ap₂, _∙_}
 use Prim.Native.Nat.{ℕ, _-_, _≤_}
 use lib.Bits.{bitOr}
 use native.Mathlib.Nat.{le-of-eq}

@@ -1,7 +1,7 @@
 -- `nookmallow::answer_words` meets its contract.
 -- Assumes nothing.
-use mathlib.Core.Path.{_≡_, sym, ap, _∙_, subst}
-use Rattle.calls.specs.Answers.{Outcome, outcome, answerSays}
+use mathlib.Core.Path.{ap, subst}
+use Rattle.calls.specs.Answers.{answerSays}
 use Rattle.nookmallow.specs.Boundary.{NarrowAnswer}
 use borrow.Author.Needs.{needs}
 use Rattle.nookmallow.proofs.answer_words.Statement.{statement}

@@ -1,6 +1,6 @@
 -- `nookmallow::length_of` meets its contract.
 -- Assumes nothing.
-use mathlib.Core.Path.{_≡_, sym, ap, _∙_, subst}
+use mathlib.Core.Path.{sym, ap, _∙_, subst}
 use borrow.Author.Tests.{not-true, not-false}
 use Rattle.nookmallow.specs.Boundary.{answerWords, lengthAnswers, NarrowAnswer}
 use Rattle.nookmallow.proofs.Bounds.{length-narrow}

@@ -1,6 +1,6 @@
 -- `nookmallow::nookmallow_open` meets its contract.
 -- Assumes nothing.
-use mathlib.Core.Path.{_≡_, refl, sym, ap, _∙_, subst}
+use mathlib.Core.Path.{refl, sym, ap, _∙_, subst}
 use Rattle.calls.specs.Answers.{Handed, openingSays}
 use Rattle.nookmallow.specs.Boundary.{Narrow}
 use Rattle.nookmallow.proofs.Bounds.{open-narrow, handed-is}

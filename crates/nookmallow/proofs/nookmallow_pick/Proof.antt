@@ -1,6 +1,6 @@
 -- `nookmallow::nookmallow_pick` meets its contract.
 -- Assumes nothing.
-use mathlib.Core.Path.{_≡_, refl, sym, ap, _∙_, subst}
+use mathlib.Core.Path.{refl, sym, ap, _∙_, subst}
 use borrow.Author.Tests.{not-true, not-false}
 use Rattle.calls.specs.Answers.{Handed, takingSays}
 use Rattle.nookmallow.specs.Boundary.{Narrow}

@@ -1,6 +1,6 @@
 -- `nookmallow::nookmallow_read` meets its contract.
 -- Assumes nothing.
-use mathlib.Core.Path.{_≡_, sym, ap, _∙_, subst}
+use mathlib.Core.Path.{sym, ap, _∙_}
 use native.Mathlib.Omega.{arith}
 use Rattle.recording.specs.Answers.{readingSays}
 use Rattle.recording.proofs.Laws.{read-law}

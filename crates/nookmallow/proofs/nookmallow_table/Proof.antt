@@ -1,6 +1,6 @@
 -- `nookmallow::nookmallow_table` meets its contract.
 -- Assumes nothing.
-use mathlib.Core.Path.{_≡_, sym, ap, _∙_, subst}
+use mathlib.Core.Path.{sym, ap, _∙_}
 use Rattle.reach.specs.Tables.{tableSays}
 use borrow.Author.Needs.{needs}
 use Rattle.nookmallow.proofs.nookmallow_table.Statement.{statement}

@@ -1,6 +1,6 @@
 -- `nookmallow::nookmallow_whole` meets its contract.
 -- Assumes nothing.
-use mathlib.Core.Path.{_≡_, sym, ap, _∙_, subst}
+use mathlib.Core.Path.{sym, ap, _∙_, subst}
 use Rattle.nookmallow.specs.Boundary.{answerWords, NarrowAnswer}
 use Rattle.nookmallow.proofs.Bounds.{whole-narrow}
 use borrow.Author.Needs.{needs}

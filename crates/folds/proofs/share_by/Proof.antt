@@ -1,0 +1,87 @@
+-- `folds::share_by` meets its contract.
+-- Assumes nothing.
+use mathlib.Core.Path.{ap, _∙_}
+use mathlib.Core.List.{List}
+use Prim.Native.Nat.{ℕ}
+use native.Mathlib.Omega.{arith}
+use Rattle.times.proofs.Rows.{row-le}
+use Rattle.folds.specs.Folds.{putRow}
+use borrow.Author.Needs.{needs}
+use Rattle.folds.proofs.share_by.Statement.{statement}
+use Rattle.folds.proofs.share_by.Tie as tie
+
+mul-from : tie.Need-mul-from
+mul-from c = let p = c .before .before .before .pre in omega (arith, row-le _ (p .1 .0), p .1 .1 .1)
+
+mul-at : tie.Need-mul-at
+mul-at c = let p = c .before .before .before .before .pre in omega (arith, row-le _ (p .0), p .1 .1 .1)
+
+add-copy-over : tie.Need-add-copy-over
+add-copy-over c = let p = c .before .before .before .before .before .pre in omega (arith, row-le _ (p .1 .0), p .1 .1 .1)
+
+mul-copy-over : tie.Need-mul-copy-over
+mul-copy-over c = let p = c .before .before .before .before .before .pre in omega (arith, row-le _ (p .1 .0), p .1 .1 .1)
+
+sub-copy-over : tie.Need-sub-copy-over
+sub-copy-over c = search needs
+
+part-copy-over-start : tie.Need-part-copy-over-start
+part-copy-over-start c = search needs
+
+part-copy-over-end : tie.Need-part-copy-over-end
+part-copy-over-end c = let p = c .before .before .before .before .before .before .pre in omega (arith, row-le _ (p .1 .0), p .1 .1 .1)
+
+copy-over-requires : tie.Need-copy-over-requires
+copy-over-requires c κs = search needs
+
+add-copy-over-2 : tie.Need-add-copy-over-2
+add-copy-over-2 c = let p = c .before .before .before .before .before .before .before .before .before .before .pre in omega (arith, row-le _ (p .0), p .1 .1 .1)
+
+mul-copy-over-2 : tie.Need-mul-copy-over-2
+mul-copy-over-2 c = let p = c .before .before .before .before .before .before .before .before .before .before .pre in omega (arith, row-le _ (p .0), p .1 .1 .1)
+
+sub-copy-over-2 : tie.Need-sub-copy-over-2
+sub-copy-over-2 c = search needs
+
+part-copy-over-start-2 : tie.Need-part-copy-over-start-2
+part-copy-over-start-2 c = search needs
+
+part-copy-over-end-2 : tie.Need-part-copy-over-end-2
+part-copy-over-end-2 c = let p = c .before .before .before .before .before .before .before .before .before .before .pre in omega (arith, row-le _ (p .0), p .1 .1 .1)
+
+copy-over-requires-2 : tie.Need-copy-over-requires-2
+copy-over-requires-2 c κs = search needs
+
+same-length : tie.Need-same-length
+same-length c = search needs
+
+same-length-2 : tie.Need-same-length-2
+same-length-2 c = search needs
+
+returns : tie.Need-returns
+returns c =
+    let c7 = c .before .before .before .before .before .before .before in
+    let c15 = c7 .before .before .before .before .before .before .before .before in
+    ap (λ (x : List ℕ). putRow (c15 .args .n) (c15 .args .folds .now) (c15 .args .d .0) x) (c .before .before .copy-over2 .ensures ∙ c7 .copy-over .ensures)
+
+pub share-by-spec : {M : Type 1} → statement M
+share-by-spec =
+    tie.close
+    (tie.spec
+    mul-from
+    mul-at
+    add-copy-over
+    mul-copy-over
+    sub-copy-over
+    part-copy-over-start
+    part-copy-over-end
+    copy-over-requires
+    add-copy-over-2
+    mul-copy-over-2
+    sub-copy-over-2
+    part-copy-over-start-2
+    part-copy-over-end-2
+    copy-over-requires-2
+    same-length
+    same-length-2
+    returns)

@@ -1,0 +1,84 @@
+-- `folds::write_fold` meets its contract. The fold of an earlier row (`same-fold`), or a new one.
+-- Assumes nothing.
+use mathlib.Core.Path.{ap, _∙_}
+use mathlib.Core.List.{List}
+use Prim.Native.Nat.{ℕ}
+use native.Mathlib.Omega.{arith}
+use Rattle.times.proofs.Rows.{row-le}
+use Rattle.folds.specs.Folds.{putRow}
+use Rattle.folds.proofs.Gathered.{same-fold}
+use borrow.Author.Needs.{needs}
+use Rattle.folds.proofs.write_fold.Statement.{statement}
+use Rattle.folds.proofs.write_fold.Tie as tie
+
+first-same-requires : tie.Need-first-same-requires
+first-same-requires c κs = search needs
+
+share-requires : tie.Need-share-requires
+share-requires c κs = search needs
+
+same-length : tie.Need-same-length
+same-length c = search needs
+
+returns : tie.Need-returns
+returns c =
+    let c5 = c .before .before .before .before .before in
+    let c9 = c5 .before .before .before .before in
+    c .before .before .share .ensures
+    ∙ ap (λ (x : List ℕ). putRow (c9 .args .n) (c9 .args .folds .now) (c9 .args .own .0) x)
+    (same-fold (c9 .args .late) (c9 .args .n) (c9 .args .later .now) (c9 .args .sets .now) (c9 .args .own .0) (c9 .args .folds .now) (c5 .first-same .result) (c9 .pre) (c .before .before .before .before .if1 .taken) (c5 .first-same .ensures .1))
+
+mul-at : tie.Need-mul-at
+mul-at c = let p = c .before .before .before .before .before .pre in omega (arith, row-le _ (p .below), p .room)
+
+add-fold-row : tie.Need-add-fold-row
+add-fold-row c = let p = c .before .before .before .before .before .pre in omega (arith, row-le _ (p .below), p .room)
+
+mul-fold-row : tie.Need-mul-fold-row
+mul-fold-row c = let p = c .before .before .before .before .before .pre in omega (arith, row-le _ (p .below), p .room)
+
+sub-fold-row : tie.Need-sub-fold-row
+sub-fold-row c = search needs
+
+part-fold-row-start : tie.Need-part-fold-row-start
+part-fold-row-start c = search needs
+
+part-fold-row-end : tie.Need-part-fold-row-end
+part-fold-row-end c = let p = c .before .before .before .before .before .pre in omega (arith, row-le _ (p .below), p .room)
+
+mul-fold-row-2 : tie.Need-mul-fold-row-2
+mul-fold-row-2 c = search needs
+
+shared-slice-read-fold-row : tie.Need-shared-slice-read-fold-row
+shared-slice-read-fold-row c = search needs
+
+fold-row-requires : tie.Need-fold-row-requires
+fold-row-requires c κs = search needs
+
+same-length-2 : tie.Need-same-length-2
+same-length-2 c = search needs
+
+returns-2 : tie.Need-returns-2
+returns-2 c =
+    let c10 = c .before .before .before .before .before .before .before .before .before .before in
+    ap (λ (x : List ℕ). putRow (c10 .args .n) (c10 .args .folds .now) (c10 .args .own .0) x) (c .before .before .fold-row .ensures)
+
+pub write-fold-spec : {M : Type 1} → statement M
+write-fold-spec =
+    tie.close
+    (tie.spec
+    first-same-requires
+    share-requires
+    same-length
+    returns
+    mul-at
+    add-fold-row
+    mul-fold-row
+    sub-fold-row
+    part-fold-row-start
+    part-fold-row-end
+    mul-fold-row-2
+    shared-slice-read-fold-row
+    fold-row-requires
+    same-length-2
+    returns-2)
