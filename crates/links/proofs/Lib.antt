@@ -1,6 +1,7 @@
 -- Laws of the tables of links.
 pub mod Rows
 pub mod Bits
+pub mod Full
 pub mod Closure
 pub mod Padded
 pub mod Tells

@@ -1,12 +1,10 @@
 // Tables of links between n boards, 2 to 32: n words, bit v of word u for the pair u, v. Words are taken as they are found.
 ghost use mathlib.Core.Path.{_≡_};
-ghost use Prim.Native.Nat.{_≤_, _<_};
+ghost use Prim.Native.Nat.{_-_, _^_, _≤_, _<_};
 ghost use lib.ListN.{length};
-ghost use lib.Dec.{eqb};
-ghost use mathlib.Core.Bool.{_||_};
 ghost use Rattle.model.specs.Recording.{bit};
 ghost use Rattle.lists.specs.Tab.{tab, padded};
-ghost use Rattle.links.specs.Tables.{without, columnRow, intersection, union, throughRow, compose, within, rowFull, full, connected, same};
+ghost use Rattle.links.specs.Tables.{without, columnRow, intersection, union, throughRow, compose, within, full, connected, same};
 ghost use Rattle.links.specs.Warshall.{pass, passes, clearRow};
 use model::Board;
 
@@ -154,38 +152,25 @@ pub fn closed_words(words: &[u32], n: usize) -> [u32; 32]
 
 // ---- tests
 
-// Whether u is v, or u's row has v's bit.
-fn pair_full(row: u32, u: Board, v: Board) -> bool
-    requires { ⌜ v .0 < 32 ⌝ }
-    ensures { λ r. ⌜ r ≡ (eqb (u .0) (v .0) || bit row (v .0)) ⌝ }
+// The word of the bits below n.
+fn low_bits(n: usize) -> u32
+    requires { ⌜ n ≤ 32 ⌝ }
+    ensures { λ r. ⌜ r ≡ 2 ^ n - 1 ⌝ }
 {
-    if u.0 == v.0 {
-        return true;
+    if n == 0 {
+        return 0;
     }
-    linked(row, v)
+    !0u32 >> (32 - n)
 }
 
-fn row_full(t: &[u32], u: Board, n: usize) -> bool
-    requires { ⌜ (n ≤ 32) × (u .0 < length (now t)) ⌝ }
-    ensures { λ r. ⌜ r ≡ rowFull n (now (t .entry)) (u .0) ⌝ }
-{
-    let at = u.0;
-    let row = t[at];
-    for v in 0..n {
-        if !pair_full(row, u, Board(v)) {
-            return false;
-        }
-    }
-    true
-}
-
-// Whether every ordered pair of different boards is marked.
+// Whether every ordered pair of different boards is marked: a row and its own bit have the bits of all boards.
 pub fn is_full(t: &[u32], n: usize) -> bool
     requires { ⌜ (n ≤ 32) × (n ≤ length (now t)) ⌝ }
     ensures { λ r. ⌜ r ≡ full n (now (t .entry)) ⌝ }
 {
+    let all = low_bits(n);
     for u in 0..n {
-        if !row_full(t, Board(u), n) {
+        if (t[u] | (1u32 << u)) & all != all {
             return false;
         }
     }
