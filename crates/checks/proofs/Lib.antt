@@ -1,4 +1,5 @@
 -- The table rule of constants, and what the checks say.
 pub mod Table
 pub mod Clean
+pub mod Masks
 pub mod Lent

@@ -1,10 +1,9 @@
 // Checks of a pick or a footprint: forbidden bits, and links outside the footprint.
 ghost use mathlib.Core.Path.{_≡_};
-ghost use Prim.Native.Nat.{_*_, _<_, _≤_};
+ghost use Prim.Native.Nat.{_*_, _≤_};
 ghost use lib.ListN.{length};
-ghost use Rattle.checks.specs.Checks.{allowed, cleanRow, clean, listed};
+ghost use Rattle.checks.specs.Checks.{allowed, clean, listed};
 ghost use Rattle.checks.specs.Lent.{cleanPicks};
-use model::Board;
 
 // The allowed bits for each number of boards n, 0 to 32: those below n. Row a of n boards may hold them all but bit a.
 const ALLOWED: [u32; 33] = [
@@ -51,30 +50,17 @@ fn allowed_bits(n: usize) -> u32
     ALLOWED[n]
 }
 
-// Whether the word of a board has no bit of board n or above, and not its own.
-fn is_clean_row(words: &[u32], b: Board, n: usize) -> bool
-    requires { ⌜ (n ≤ 32) × ((b .0 < n) × (n ≤ length (now words))) ⌝ }
-    ensures { λ r. ⌜ r ≡ cleanRow n (now (words .entry)) (b .0) ⌝ }
-{
-    let u = b.0;
-    let word = words[u];
-    if allowed_bits(n) < word {
-        return false;
-    }
-    !links::linked(word, b)
-}
-
-// Whether n words have no forbidden bit.
+// Whether n words have no forbidden bit, of board n or above or their own. Such bits are gathered, so that the loop has no branch.
 pub fn is_clean(words: &[u32], n: usize) -> bool
     requires { ⌜ (n ≤ 32) × (n ≤ length (now words)) ⌝ }
     ensures { λ r. ⌜ r ≡ clean n (now (words .entry)) ⌝ }
 {
+    let above = !allowed_bits(n);
+    let mut bad = 0u32;
     for u in 0..n {
-        if !is_clean_row(words, Board(u), n) {
-            return false;
-        }
+        bad = bad | (words[u] & ((1u32 << u) | above));
     }
-    true
+    bad == 0
 }
 
 // Whether none of the first m picks, n words each, has a forbidden bit.
@@ -91,15 +77,14 @@ pub fn are_clean(words: &[u32], n: usize, m: usize) -> bool
     true
 }
 
-// Whether every link of a pick is in the footprint.
+// Whether every link of a pick is in the footprint. The others are gathered.
 pub fn is_listed(footprint: &[u32], words: &[u32], n: usize) -> bool
     requires { ⌜ (n ≤ length (now footprint)) × (n ≤ length (now words)) ⌝ }
     ensures { λ r. ⌜ r ≡ listed n (now (footprint .entry)) (now (words .entry)) ⌝ }
 {
+    let mut bad = 0u32;
     for u in 0..n {
-        if words[u] | footprint[u] != footprint[u] {
-            return false;
-        }
+        bad = bad | (words[u] & !footprint[u]);
     }
-    true
+    bad == 0
 }

@@ -1,47 +1,39 @@
--- `checks::is_listed` meets its contract: the loop returns at the first word with a link outside the footprint.
+-- `checks::is_listed` meets its contract: the bits gathered are none exactly when each word so far is listed (`gather`).
 -- Assumes nothing.
-use mathlib.Core.Bool.{true}
 use mathlib.Core.Path.{_≡_, sym}
-use Prim.Native.Nat.{_-_, _≤_}
+use Prim.Native.Nat.{_-_, _^_, _≤_, _<_}
 use native.Mathlib.Omega.{arith}
-use borrow.Author.Tests.{eq-eqb, ne-eqb}
+use lib.Bits.{bitAnd}
+use lib.Dec.{eqb}
+use lib.ListN.{getD}
 use Rattle.lists.specs.Tab.{every}
-use Rattle.lists.proofs.Tab.{every-none, every-next, every-stop}
+use Rattle.lists.proofs.Tab.{every-none}
 use Rattle.checks.specs.Checks.{listedRow, listed}
+use Rattle.checks.proofs.Masks.{gather, listed-word}
 use borrow.Author.Needs.{needs}
 use Rattle.checks.proofs.is_listed.Statement.{statement}
 use Rattle.checks.proofs.is_listed.Tie as tie
 
 abbrev Inv-loop : tie.InvT-loop
-Inv-loop footprint words n u₀ u = (u ≤ n) × (every (listedRow footprint words) u ≡ true)
+Inv-loop footprint words n bad₀ u₀ bad u = (u ≤ n) × (eqb bad 0 ≡ every (listedRow footprint words) u)
 
 abbrev μ-loop : tie.MeasureT-loop
-μ-loop footprint words n u₀ u = n - u
+μ-loop footprint words n bad₀ u₀ bad u = n - u
 
 loop-holds : tie.Need-loop-holds Inv-loop μ-loop
-loop-holds c = (search needs, every-none _)
+loop-holds c = (search needs, sym (every-none _))
 
-mul-if1 : tie.Need-mul-if1 Inv-loop μ-loop
-mul-if1 c = search needs
+mul-bad : tie.Need-mul-bad Inv-loop μ-loop
+mul-bad c = search needs
 
-shared-slice-read-if1 : tie.Need-shared-slice-read-if1 Inv-loop μ-loop
-shared-slice-read-if1 c = search needs
+shared-slice-read-bad : tie.Need-shared-slice-read-bad Inv-loop μ-loop
+shared-slice-read-bad c = search needs
 
-mul-if1-2 : tie.Need-mul-if1-2 Inv-loop μ-loop
-mul-if1-2 c = search needs
+mul-bad-2 : tie.Need-mul-bad-2 Inv-loop μ-loop
+mul-bad-2 c = search needs
 
-shared-slice-read-if1-2 : tie.Need-shared-slice-read-if1-2 Inv-loop μ-loop
-shared-slice-read-if1-2 c = search needs
-
-mul-if1-3 : tie.Need-mul-if1-3 Inv-loop μ-loop
-mul-if1-3 c = search needs
-
-shared-slice-read-if1-3 : tie.Need-shared-slice-read-if1-3 Inv-loop μ-loop
-shared-slice-read-if1-3 c = search needs
-
-returns : tie.Need-returns Inv-loop μ-loop
-unfolding listed listedRow
-returns c = sym (every-stop _ _ _ (c .before .before .before .before .loop-test .taken) (ne-eqb _ _ (c .if1 .taken)))
+shared-slice-read-bad-2 : tie.Need-shared-slice-read-bad-2 Inv-loop μ-loop
+shared-slice-read-bad-2 c = search needs
 
 add-u : tie.Need-add-u Inv-loop μ-loop
 add-u c = search needs
@@ -50,12 +42,18 @@ loop-less : tie.Need-loop-less Inv-loop μ-loop
 loop-less c = search needs
 
 loop-again : tie.Need-loop-again Inv-loop μ-loop
-unfolding listedRow
-loop-again c = (search needs, every-next _ _ (c .before .before .before .before .before .loop .inv .1) (eq-eqb _ _ (c .if1 .left)))
+loop-again c =
+    let c3 = c .before .before .before in
+    let u = c3 .loop .u in
+    let l = c3 .before .args .footprint .now in
+    let w = c3 .before .args .words .now in
+    let hw : getD w u 0 < 2 ^ 32 = omega (arith, c .before .shared-slice-known .given u) in
+    let hl : getD l u 0 < 2 ^ 32 = omega (arith, c .shared-slice-known2 .given u) in
+    (search needs, gather (listedRow l w) u (c3 .loop .bad) (bitAnd (getD w u 0) (2 ^ 32 - 1 - getD l u 0)) (c3 .loop .inv .1) (listed-word l w u hw hl))
 
-returns-2 : tie.Need-returns-2 Inv-loop μ-loop
+returns : tie.Need-returns Inv-loop μ-loop
 unfolding listed
-returns-2 c = let e : c .before .loop .u ≡ c .before .before .args .n = omega arith in sym (rw e at (c .before .loop .inv .1))
+returns c = let e : c .before .loop .u ≡ c .before .before .args .n = omega arith in rw e at (c .before .loop .inv .1)
 
 pub is-listed-spec : {M : Type 1} → statement M
 is-listed-spec =
@@ -64,14 +62,11 @@ is-listed-spec =
     Inv-loop
     μ-loop
     loop-holds
-    mul-if1
-    shared-slice-read-if1
-    mul-if1-2
-    shared-slice-read-if1-2
-    mul-if1-3
-    shared-slice-read-if1-3
-    returns
+    mul-bad
+    shared-slice-read-bad
+    mul-bad-2
+    shared-slice-read-bad-2
     add-u
     loop-less
     loop-again
-    returns-2)
+    returns)
