@@ -1,13 +1,16 @@
 -- What one turn of the loops over columns and passes adds. Assumes nothing.
 use mathlib.Core.Path.{_≡_, refl, ap, ap₂, _∙_, sym}
+use mathlib.Core.Bool.{Bool, true, false}
 use mathlib.Core.List.{List}
 use Prim.Native.Nat.{ℕ, suc, _+_, _<_}
 use native.Mathlib.Numerals.{add-one}
-use lib.Bits.{bitOr}
-use lib.ListN.{getD}
+use native.Mathlib.Omega.{arith}
+use lib.Bits.{bitOr, or-zero-r}
+use lib.ListN.{length, getD}
+use lib.Seq.{ext-getD}
 use Rattle.model.specs.Recording.{bit, link}
 use Rattle.lists.specs.Tab.{tab, kept}
-use Rattle.lists.proofs.Tab.{tab-ext, getD-tab}
+use Rattle.lists.proofs.Tab.{tab-ext, length-tab, getD-tab}
 use Rattle.links.specs.Tables.{eitherRow, union, columnRow, without, gathered, throughRow, composeRow, compose}
 use Rattle.links.specs.Warshall.{pass, passes, clearRow}
 
@@ -22,6 +25,18 @@ unfolding throughRow columnRow gathered link
 through-next s t n k =
     rw (add-one k) (tab-ext (columnRow (tab (throughRow s t k) n) s (getD t k 0) k) (throughRow s t (suc k)) n
     (λ u h. ap (λ (x : ℕ). bitOr x (kept (bit (getD s u 0) k) (getD t k 0))) (getD-tab (throughRow s t k) n u h)))
+
+-- a row without links adds nothing
+pub no-column : (out s : List ℕ) (row w n : ℕ) → row ≡ 0 → n ≡ length out → out ≡ tab (columnRow out s row w) n
+unfolding columnRow
+no-column out s row w n z e =
+    let l = length-tab (columnRow out s row w) n in
+    ext-getD 0 out (tab (columnRow out s row w) n) (sym (l ∙ e))
+    (λ u h. sym (getD-tab (columnRow out s row w) n u (omega arith) ∙ ap (bitOr (getD out u 0)) (none (link s u w)) ∙ or-zero-r (getD out u 0)))
+  where
+    none : (b : Bool) → kept b row ≡ 0
+    none true = z
+    none false = refl
 
 pub passes-next : (n : ℕ) (t : List ℕ) (k : ℕ) → passes n t (k + 1) ≡ pass n (passes n t k) k
 unfolding passes

@@ -63,6 +63,9 @@ fn add_column(out: &mut [u32], left: &[u32], row: u32, b: Board, n: usize)
     requires { ⌜ (b .0 < 32) × ((n ≡ length (now out)) × (n ≤ length (now left))) ⌝ }
     ensures { λ _. ⌜ now (out .exit) ≡ tab (columnRow (now (out .entry)) (now (left .entry)) row (b .0)) n ⌝ }
 {
+    if row == 0 {
+        return;
+    }
     let w = b.0;
     for u in 0..n {
         out[u] = out[u] | lists::keep(row, (left[u] >> w) % 2);
@@ -108,6 +111,9 @@ fn pass_over(t: &mut [u32], b: Board, n: usize)
 {
     let w = b.0;
     let row = t[w];
+    if row == 0 {
+        return;
+    }
     for u in 0..n {
         t[u] = t[u] | lists::keep(row, (t[u] >> w) % 2);
     }

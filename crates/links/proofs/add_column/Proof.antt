@@ -1,4 +1,4 @@
--- `links::add_column` meets its contract. The invariant is `Made`; word u is read before it is written (`made-read`).
+-- `links::add_column` meets its contract. The invariant is `Made`; word u is read before it is written (`made-read`). A row of zero returns at once (`no-column`).
 -- Assumes nothing.
 use mathlib.Core.Path.{_∙_, ap}
 use Prim.Native.Nat.{ℕ, _-_}
@@ -6,6 +6,7 @@ use lib.Bits.{bitOr}
 use Rattle.model.specs.Recording.{bit, link}
 use Rattle.lists.proofs.Tab.{Made, made-start, made-turn, made-read, made-all}
 use Rattle.links.specs.Tables.{columnRow}
+use Rattle.links.proofs.Rows.{no-column}
 use borrow.Author.Needs.{needs}
 use Rattle.links.proofs.add_column.Statement.{statement}
 use Rattle.links.proofs.add_column.Tie as tie
@@ -16,8 +17,11 @@ Inv-loop out₀ left row n w u₀ out u = Made (columnRow out₀ left row w) n o
 abbrev μ-loop : tie.MeasureT-loop
 μ-loop out₀ left row n w u₀ out u = n - u
 
+returns : tie.Need-returns Inv-loop μ-loop
+returns c = no-column _ _ _ _ _ (c .if1 .taken) (c .before .before .before .pre .1 .0)
+
 loop-holds : tie.Need-loop-holds Inv-loop μ-loop
-loop-holds c = made-start (c .before .before .pre .1 .0)
+loop-holds c = made-start (c .before .before .before .pre .1 .0)
 
 mul-out : tie.Need-mul-out Inv-loop μ-loop
 mul-out c = search needs
@@ -62,8 +66,8 @@ loop-again c =
 same-length : tie.Need-same-length Inv-loop μ-loop
 same-length c = search needs
 
-returns : tie.Need-returns Inv-loop μ-loop
-returns c = made-all (c .before .loop .inv) (c .loop-test .left)
+returns-2 : tie.Need-returns-2 Inv-loop μ-loop
+returns-2 c = made-all (c .before .loop .inv) (c .loop-test .left)
 
 pub add-column-spec : {M : Type 1} → statement M
 add-column-spec =
@@ -71,6 +75,7 @@ add-column-spec =
     (tie.spec
     Inv-loop
     μ-loop
+    returns
     loop-holds
     mul-out
     slice-read-out
@@ -85,4 +90,4 @@ add-column-spec =
     loop-less
     loop-again
     same-length
-    returns)
+    returns-2)

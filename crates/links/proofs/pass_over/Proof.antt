@@ -1,4 +1,4 @@
--- `links::pass_over` meets its contract. The invariant is `Made`; word u is read before it is written (`made-read`).
+-- `links::pass_over` meets its contract. The invariant is `Made`; word u is read before it is written (`made-read`). A row of zero returns at once (`no-column`).
 -- Assumes nothing.
 use mathlib.Core.Path.{_∙_}
 use Prim.Native.Nat.{_-_}
@@ -7,6 +7,7 @@ use Rattle.model.specs.Recording.{bit, link}
 use Rattle.lists.proofs.Tab.{Made, made-start, made-turn, made-read, made-all}
 use Rattle.links.specs.Tables.{columnRow}
 use Rattle.links.specs.Warshall.{pass}
+use Rattle.links.proofs.Rows.{no-column}
 use borrow.Author.Needs.{needs}
 use Rattle.links.proofs.pass_over.Statement.{statement}
 use Rattle.links.proofs.pass_over.Tie as tie
@@ -23,8 +24,12 @@ mul-row c = search needs
 slice-read-row : tie.Need-slice-read-row Inv-loop μ-loop
 slice-read-row c = search needs
 
+returns : tie.Need-returns Inv-loop μ-loop
+unfolding pass
+returns c = no-column _ _ _ _ _ (c .if1 .taken) (c .before .before .before .pre .1 .1)
+
 loop-holds : tie.Need-loop-holds Inv-loop μ-loop
-loop-holds c = made-start (c .before .before .pre .1 .1)
+loop-holds c = made-start (c .before .before .before .pre .1 .1)
 
 mul-t : tie.Need-mul-t Inv-loop μ-loop
 mul-t c = search needs
@@ -69,9 +74,9 @@ loop-again c =
 same-length : tie.Need-same-length Inv-loop μ-loop
 same-length c = search needs
 
-returns : tie.Need-returns Inv-loop μ-loop
+returns-2 : tie.Need-returns-2 Inv-loop μ-loop
 unfolding pass
-returns c = made-all (c .before .loop .inv) (c .loop-test .left)
+returns-2 c = made-all (c .before .loop .inv) (c .loop-test .left)
 
 pub pass-over-spec : {M : Type 1} → statement M
 pass-over-spec =
@@ -81,6 +86,7 @@ pass-over-spec =
     μ-loop
     mul-row
     slice-read-row
+    returns
     loop-holds
     mul-t
     slice-read-t
@@ -95,4 +101,4 @@ pass-over-spec =
     loop-less
     loop-again
     same-length
-    returns)
+    returns-2)
