@@ -1,9 +1,9 @@
 -- The test of a row by whole words. Assumes nothing.
 use mathlib.Core.Path.{_≡_, sym, ap, _∙_}
 use mathlib.Core.Logic.{⊎-elim}
-use mathlib.Core.Bool.{Bool, _||_, _&&_, not}
+use mathlib.Core.Bool.{Bool, _||_, not}
 use mathlib.Core.List.{List}
-use Prim.Native.Nat.{ℕ, _+_, _-_, _*_, _/_, _^_, _≤_, _<_}
+use Prim.Native.Nat.{ℕ, _+_, _-_, _/_, _^_, _≤_, _<_}
 use native.Mathlib.Nat.{sub-zero}
 use native.Mathlib.Omega.{arith}
 use lib.Bits.{bitAnd, bitOr, mask-lt}
@@ -11,7 +11,7 @@ use lib.Dec.{T, eqb, eqb→eq}
 use lib.ListN.{getD}
 use lib.Pow.{pow-pos, ones-lt, ones-split, high}
 use Rattle.model.specs.Recording.{bit, link}
-use Rattle.model.proofs.Logic.{tr, bool-ext, or-l, or-r, or-cases, and-both, and-l, and-r, eq-refl}
+use Rattle.model.proofs.Logic.{tr, bool-ext, or-l, or-r, or-cases, and-both, and-l, eq-refl}
 use Rattle.model.proofs.Bits.{bit-high, bit-or, bit-and, bit-one, bit-complement, bits-ext}
 use Rattle.lists.specs.Tab.{every}
 use Rattle.lists.proofs.Tab.{every-in, every-out}

@@ -1,10 +1,11 @@
 // Tables of links between n boards, 2 to 32: n words, bit v of word u for the pair u, v. Words are taken as they are found.
 ghost use mathlib.Core.Path.{_≡_};
-ghost use Prim.Native.Nat.{_-_, _^_, _≤_, _<_};
+ghost use Prim.Native.Nat.{_+_, _-_, _^_, _≤_, _<_};
 ghost use lib.ListN.{length};
 ghost use Rattle.model.specs.Recording.{bit};
 ghost use Rattle.lists.specs.Tab.{tab, padded};
 ghost use Rattle.links.specs.Tables.{without, columnRow, intersection, union, throughRow, compose, within, full, connected, same};
+ghost use Rattle.links.specs.Columns.{fourRow};
 ghost use Rattle.links.specs.Warshall.{pass, passes, clearRow};
 use model::Board;
 
@@ -72,12 +73,49 @@ fn add_column(out: &mut [u32], left: &[u32], row: u32, b: Board, n: usize)
     }
 }
 
-// The columns of all boards, one after the other.
+// The columns of b and the three boards after it: four at once, so that each word of out is read and written once for them.
+fn add_four(out: &mut [u32], left: &[u32], right: &[u32], b: Board, n: usize)
+    requires { ⌜ (n ≤ 32) × ((b .0 + 4 ≤ n) × ((n ≡ length (now out)) × ((n ≤ length (now left)) × (n ≤ length (now right))))) ⌝ }
+    ensures { λ _. ⌜ now (out .exit) ≡ tab (fourRow (now (out .entry)) (now (left .entry)) (now (right .entry)) (b .0)) n ⌝ }
+{
+    let w = b.0;
+    let first = right[w];
+    let second = right[w + 1];
+    let third = right[w + 2];
+    let fourth = right[w + 3];
+    if first | second | third | fourth == 0 {
+        return;
+    }
+    for u in 0..n {
+        let l = left[u] >> w;
+        out[u] = out[u]
+            | lists::keep(first, l % 2)
+            | lists::keep(second, (l >> 1) % 2)
+            | lists::keep(third, (l >> 2) % 2)
+            | lists::keep(fourth, (l >> 3) % 2);
+    }
+}
+
+// The columns of the boards below r, as many as go by fours.
+fn add_fours(out: &mut [u32], left: &[u32], right: &[u32], n: usize) -> usize
+    requires { ⌜ (n ≤ 32) × ((now out ≡ union n (now left) (now right)) × ((n ≡ length (now out)) × ((n ≤ length (now left)) × (n ≤ length (now right))))) ⌝ }
+    ensures { λ r. ⌜ (r ≤ n) × (now (out .exit) ≡ tab (throughRow (now (left .entry)) (now (right .entry)) r) n) ⌝ }
+{
+    let mut w = 0;
+    while w + 4 <= n {
+        add_four(out, left, right, Board(w), n);
+        w += 4;
+    }
+    w
+}
+
+// The columns of all boards.
 fn add_columns(out: &mut [u32], left: &[u32], right: &[u32], n: usize)
     requires { ⌜ (n ≤ 32) × ((now out ≡ union n (now left) (now right)) × ((n ≡ length (now out)) × ((n ≤ length (now left)) × (n ≤ length (now right))))) ⌝ }
     ensures { λ _. ⌜ now (out .exit) ≡ tab (throughRow (now (left .entry)) (now (right .entry)) n) n ⌝ }
 {
-    for w in 0..n {
+    let from = add_fours(out, left, right, n);
+    for w in from..n {
         add_column(out, left, right[w], Board(w), n);
     }
 }

@@ -1,24 +1,27 @@
--- `links::add_columns` meets its contract. The invariant is the definition at `w`; a turn is `through-next`.
+-- `links::add_columns` meets its contract. The invariant is the definition at `w`, where `add_fours` ends; a turn is `through-next`.
 -- Assumes nothing.
 use mathlib.Core.Path.{_≡_, _∙_}
 use Prim.Native.Nat.{_≤_, _-_}
 use native.Mathlib.Omega.{arith}
 use lib.ListN.{length}
 use Rattle.lists.specs.Tab.{tab}
-use Rattle.links.specs.Tables.{throughRow, union}
-use Rattle.links.proofs.Rows.{through-none, through-next}
+use Rattle.links.specs.Tables.{throughRow}
+use Rattle.links.proofs.Rows.{through-next}
 use borrow.Author.Needs.{needs}
 use Rattle.links.proofs.add_columns.Statement.{statement}
 use Rattle.links.proofs.add_columns.Tie as tie
 
 abbrev Inv-loop : tie.InvT-loop
-Inv-loop out₀ left right n w₀ out w = (w ≤ n) × ((length out ≡ n) × (out ≡ tab (throughRow left right w) n))
+Inv-loop out₀ left right n from w₀ out w = (w ≤ n) × ((length out ≡ n) × (out ≡ tab (throughRow left right w) n))
 
 abbrev μ-loop : tie.MeasureT-loop
-μ-loop out₀ left right n w₀ out w = n - w
+μ-loop out₀ left right n from w₀ out w = n - w
+
+add-fours-requires : tie.Need-add-fours-requires Inv-loop μ-loop
+add-fours-requires c κs = search needs
 
 loop-holds : tie.Need-loop-holds Inv-loop μ-loop
-loop-holds c = (search needs, (search needs, c .before .before .before .pre .1 .0 ∙ through-none _ _ _))
+loop-holds c = let c2 = c .before .before in (c2 .add-fours .ensures .0, (search needs, c2 .add-fours .ensures .1))
 
 mul-add-column : tie.Need-mul-add-column Inv-loop μ-loop
 mul-add-column c = search needs
@@ -44,7 +47,7 @@ same-length : tie.Need-same-length Inv-loop μ-loop
 same-length c = search needs
 
 returns : tie.Need-returns Inv-loop μ-loop
-returns c = let e : c .before .loop .w ≡ c .before .before .before .before .before .args .n = omega arith in rw e at (c .before .loop .inv .1 .1)
+returns c = let e : c .before .loop .w ≡ c .before .before .before .before .before .before .before .before .before .args .n = omega arith in rw e at (c .before .loop .inv .1 .1)
 
 pub add-columns-spec : {M : Type 1} → statement M
 add-columns-spec =
@@ -52,6 +55,7 @@ add-columns-spec =
     (tie.spec
     Inv-loop
     μ-loop
+    add-fours-requires
     loop-holds
     mul-add-column
     shared-slice-read-add-column

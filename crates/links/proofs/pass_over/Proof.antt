@@ -1,8 +1,6 @@
 -- `links::pass_over` meets its contract. The invariant is `Made`; word u is read before it is written (`made-read`). A row of zero returns at once (`no-column`).
 -- Assumes nothing.
-use mathlib.Core.Path.{_∙_}
 use Prim.Native.Nat.{_-_}
-use lib.ListN.{getD}
 use Rattle.model.specs.Recording.{bit, link}
 use Rattle.lists.proofs.Tab.{Made, made-start, made-turn, made-read, made-all}
 use Rattle.links.specs.Tables.{columnRow}
