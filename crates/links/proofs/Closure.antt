@@ -28,7 +28,7 @@ pub data Way (t : List ℕ) (b : ℕ) : ℕ → ℕ → ℕ → Type 0 where
 
 module _ {t : List ℕ} {b : ℕ} where
   -- a link more, at the end
-  snoc : {c u w v : ℕ} → Way t b c u w → w < b → T (link t w v) → Way t b (suc c) u v
+  pub snoc : {c u w v : ℕ} → Way t b c u w → w < b → T (link t w v) → Way t b (suc c) u v
   snoc (one l) h m = more l h (one m)
   snoc (more l k s) h m = more l k (snoc s h m)
 
@@ -42,7 +42,7 @@ abbrev pub Short : ℕ → ℕ → List ℕ → ℕ → ℕ → Type 0
 Short n h t u v = (c : ℕ) × (c ≤ h) × Way t n c u v
 
 -- a way of at most h + 1 links, as the composition takes it apart
-last-link : {n h c u v : ℕ} {t : List ℕ} → c ≤ suc h → Way t n c u v → T (link t u v) ⊎ ((w : ℕ) × (w < n) × Short n h t u w × T (link t w v))
+pub last-link : {n h c u v : ℕ} {t : List ℕ} → c ≤ suc h → Way t n c u v → T (link t u v) ⊎ ((w : ℕ) × (w < n) × Short n h t u w × T (link t w v))
 last-link l (one m) = inl m
 last-link l (more {c = c} m k s) = let r = unsnoc m k s in inr (r .0, r .1, (c, le-of-suc-le-suc l, r .2), r .3)
 
@@ -94,7 +94,7 @@ path-way n t ne (next {c = c} {u = u} {w = w} {v = v} l s) =
     (λ (e : w ≢ v). let q = path-way n t e s in let h : q .0 ≤ c = q .1 in (suc (q .0), omega arith, more (l .0) (⊎-elim (λ (x : w < n). x) (λ (x : w ≡ v). absurd (e x)) (l .1)) (q .2)))
     (eq-or w v)
 
-way-short : {n c u v : ℕ} {t : List ℕ} → n ≤ 32 → u < n → v < 32 → u ≢ v → Way t n c u v → Short n 31 t u v
+pub way-short : {n c u v : ℕ} {t : List ℕ} → n ≤ 32 → u < n → v < 32 → u ≢ v → Way t n c u v → Short n 31 t u v
 way-short {n} {t = t} n32 hu hv ne s =
     let q = path-short 32 (λ x w l. ⊎-elim (λ (h : w < n). lt-of-lt-of-le h n32) (λ (e : w ≡ _). subst (λ (y : ℕ). y < 32) (sym e) hv) (l .1)) (lt-of-lt-of-le hu n32) (way-path s) in
     let r = path-way n t ne (q .2) in
@@ -105,7 +105,7 @@ way-short {n} {t = t} n32 hu hv ne s =
 -- ---- Warshall's passes
 
 -- links lead from u to v over boards below b
-abbrev Led : List ℕ → ℕ → ℕ → ℕ → Type 0
+abbrev pub Led : List ℕ → ℕ → ℕ → ℕ → Type 0
 Led t b u v = (c : ℕ) × Way t b c u v
 
 module _ {t : List ℕ} where
@@ -114,7 +114,7 @@ module _ {t : List ℕ} where
   wider h (more l k p) = more l (lt-of-lt-of-le k h) (wider h p)
 
   -- a way to w, and on
-  onward : {b c u w v : ℕ} → Way t b c u w → w < b → Led t b w v → Led t b u v
+  pub onward : {b c u w v : ℕ} → Way t b c u w → w < b → Led t b w v → Led t b u v
   onward (one l) h q = (suc (q .0), more l h (q .1))
   onward (more l k p) h q = let r = onward p h q in (suc (r .0), more l k (r .1))
 

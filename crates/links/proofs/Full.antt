@@ -27,23 +27,28 @@ low-ones n h =
 pub bit-low : (n v : ℕ) → v < n → T (bit (2 ^ n - 1) v)
 bit-low n v h = tr (sym (ap (λ (x : ℕ). bit x v) (sym (sub-zero (2 ^ n - 1))) ∙ bit-complement n 0 v (pow-pos n) h ∙ ap not (bit-high 0 v (pow-pos v)))) tt
 
+-- a word has all bits below n
+pub all-in : (n y : ℕ) → ((v : ℕ) → v < n → T (bit y v)) → bitAnd y (2 ^ n - 1) ≡ 2 ^ n - 1
+all-in n y f =
+    bits-ext n (bitAnd y (2 ^ n - 1)) (2 ^ n - 1) (mask-lt y n) (ones-lt n) (λ v h. bool-ext (bit (bitAnd y (2 ^ n - 1)) v) (bit (2 ^ n - 1) v)
+    (λ b. bit-low n v h) (λ b. tr (sym (bit-and y (2 ^ n - 1) v)) (and-both (bit y v) (bit (2 ^ n - 1) v) (f v h) b)))
+
+pub all-out : (n y : ℕ) → bitAnd y (2 ^ n - 1) ≡ 2 ^ n - 1 → (v : ℕ) → v < n → T (bit y v)
+all-out n y e v h = and-l (bit y v) (bit (2 ^ n - 1) v) (tr (ap (λ (x : ℕ). bit x v) (sym e) ∙ bit-and y (2 ^ n - 1) v) (bit-low n v h))
+
 -- a row with its own bit has all bits below n exactly when it marks each pair
 pub row-full : (n : ℕ) (t : List ℕ) (u : ℕ) → rowFull n t u ≡ eqb (bitAnd (bitOr (getD t u 0) (2 ^ u)) (2 ^ n - 1)) (2 ^ n - 1)
 unfolding rowFull pairFull link
 row-full n t u =
-    bool-ext (every (pairFull t u) n) (eqb (bitAnd y a) a)
-    (λ m. eq-refl (bits-ext n (bitAnd y a) a (mask-lt y n) (ones-lt n) (λ v h. bool-ext (bit (bitAnd y a) v) (bit a v)
-    (λ b. bit-low n v h) (λ b. tr (sym (bit-and y a v)) (and-both (bit y v) (bit a v) (into v (every-out (pairFull t u) n m v h)) b)))))
-    (λ m. every-in (pairFull t u) n (λ v h. out v (and-l (bit y v) (bit a v) (tr (ap (λ (x : ℕ). bit x v) (sym (eqb→eq (bitAnd y a) a m)) ∙ bit-and y a v) (bit-low n v h)))))
+    bool-ext (every (pairFull t u) n) (eqb (bitAnd y (2 ^ n - 1)) (2 ^ n - 1))
+    (λ m. eq-refl (all-in n y (λ v h. into v (every-out (pairFull t u) n m v h))))
+    (λ m. every-in (pairFull t u) n (λ v h. out v (all-out n y (eqb→eq (bitAnd y (2 ^ n - 1)) (2 ^ n - 1) m) v h)))
   where
     x : ℕ
     x = getD t u 0
 
     y : ℕ
     y = bitOr x (2 ^ u)
-
-    a : ℕ
-    a = 2 ^ n - 1
 
     own : (v : ℕ) → bit y v ≡ bit x v || eqb u v
     own v = bit-or x (2 ^ u) v ∙ ap (λ (b : Bool). bit x v || b) (bit-one u v)

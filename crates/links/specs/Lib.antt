@@ -4,3 +4,4 @@ pub mod Warshall
 pub mod Columns
 pub mod Composed
 pub mod Tells
+pub mod Search

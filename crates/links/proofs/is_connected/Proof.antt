@@ -1,38 +1,37 @@
--- `links::is_connected` meets its contract.
+-- `links::is_connected` meets its contract: board 0 is the one that all ways go over (`full-first`).
 -- Assumes nothing.
-use mathlib.Core.Path.{_≡_, _∙_, ap}
-use Rattle.links.specs.Tables.{full, connected}
-use Rattle.links.proofs.Padded.{within-padded}
+use mathlib.Core.Bool.{Bool, _&&_}
+use mathlib.Core.Path.{sym, ap, _∙_}
+use borrow.Author.Tests.{not-true, not-false}
+use Rattle.links.specs.Tables.{within, connected}
+use Rattle.links.specs.Search.{columnFull}
+use Rattle.links.proofs.Search.{full-first}
 use borrow.Author.Needs.{needs}
 use Rattle.links.proofs.is_connected.Statement.{statement}
 use Rattle.links.proofs.is_connected.Tie as tie
 
-closed-words-requires : tie.Need-closed-words-requires
-closed-words-requires c κs = search needs
-
-sub-is-full : tie.Need-sub-is-full
-sub-is-full c = search needs
-
-part-is-full-start : tie.Need-part-is-full-start
-part-is-full-start c = search needs
-
-part-is-full-end : tie.Need-part-is-full-end
-part-is-full-end c = search needs
-
-is-full-requires : tie.Need-is-full-requires
-is-full-requires c κs = search needs
+leads-to-all-requires : tie.Need-leads-to-all-requires
+leads-to-all-requires c κs = search needs
 
 returns : tie.Need-returns
 unfolding connected
-returns c = c .is-full .ensures ∙ ap (full (c .before .before .before .before .before .args .n)) (within-padded _ _ _ (c .before .before .before .closed-words .ensures))
+returns c =
+    let a = c .before .before .before .args in
+    let e = sym (c .before .leads-to-all .ensures) ∙ not-true _ (c .if1 .taken) in
+    sym (full-first (a .n) (a .t .now) (c .before .before .before .pre .0) ∙ ap (λ (b : Bool). b && columnFull (a .n) (within (a .n) 31 (a .t .now)) 0) e)
+
+all-lead-back-requires : tie.Need-all-lead-back-requires
+all-lead-back-requires c κs = search needs
+
+returns-2 : tie.Need-returns-2
+unfolding connected
+returns-2 c =
+    let c2 = c .before .before in
+    let a = c2 .before .before .args in
+    let e = sym (c2 .leads-to-all .ensures) ∙ not-false _ (c .before .if1 .left) in
+    c .all-lead-back .ensures
+    ∙ sym (full-first (a .n) (a .t .now) (c2 .before .before .pre .0) ∙ ap (λ (b : Bool). b && columnFull (a .n) (within (a .n) 31 (a .t .now)) 0) e)
 
 pub is-connected-spec : {M : Type 1} → statement M
 is-connected-spec =
-    tie.close
-    (tie.spec
-    closed-words-requires
-    sub-is-full
-    part-is-full-start
-    part-is-full-end
-    is-full-requires
-    returns)
+    tie.close (tie.spec leads-to-all-requires returns all-lead-back-requires returns-2)
