@@ -1,17 +1,15 @@
--- A part lent, and copies of parts. Assumes nothing.
-use mathlib.Core.Path.{_≡_, ap, ap₂, _∙_}
+-- A part lent. Assumes nothing.
+use mathlib.Core.Path.{_≡_}
 use mathlib.Core.List.{List}
 use Prim.Native.Nat.{ℕ, zero, suc, _+_, _-_, _*_, _≤_, zero-le}
-use native.Mathlib.Nat.{suc-mul, mul-le-mul, min-eq-left, sub-zero, le-mul-of-pos-right}
+use native.Mathlib.Nat.{suc-mul, mul-le-mul, min-eq-left, le-mul-of-pos-right}
 use native.Mathlib.Omega.{arith}
 use mathlib.Core.Logic.{⊎-elim}
-use lib.ListN.{length, take, drop, length-take, length-drop}
+use lib.ListN.{length, length-take, length-drop}
 use Rattle.model.proofs.Logic.{eq-or}
-use Rattle.lists.specs.Tab.{padded}
-use Rattle.lists.proofs.Tab.{take-padded}
 use Rattle.measures.specs.Kit.{widthOf}
 use Rattle.measures.proofs.Words.{width-times, width-links}
-use Rattle.area.specs.Parts.{Has, part, putPart}
+use Rattle.area.specs.Parts.{Has, part}
 
 -- part i, from its first word to its last
 ends : (E words i : ℕ) → Has E words i → (i - 1) * E + E ≤ words
@@ -47,17 +45,6 @@ width-least measure n =
 pub links-most : (measure n : ℕ) → n ≤ 32 → (measure ≡ 4 → ⊥) → widthOf measure n ≤ 32
 links-most measure n h f = omega (arith, width-links measure n f)
 
--- ---- copies
-
 pub part-long : {E : ℕ} (a : List ℕ) {i : ℕ} → Has E (length a) i → length (part E a i) ≡ E
 unfolding part
 part-long a h = simp (length-take, length-drop) (min-eq-left (omega (arith, fits h)))
-
--- the first words of a copy of a part are the part
-pub copy-words : {E e i : ℕ} (k : ℕ) (a x : List ℕ) → e ≡ E → Has E (length a) i → x ≡ padded k (part e a i) → take (e - 0) x ≡ part E a i
-copy-words {E} {e} {i} k a x q h p =
-    ap₂ take (sub-zero e) p ∙ take-padded k e (part e a i) (part-long a (has-at q h)) ∙ ap (λ (m : ℕ). part m a i) q
-
--- a copy put as part d
-pub copy-put : {E e i : ℕ} (k : ℕ) (a x y : List ℕ) (d : ℕ) → e ≡ E → Has E (length a) i → x ≡ padded k (part e a i) → y ≡ putPart e a d (take (e - 0) x) → y ≡ putPart E a d (part E a i)
-copy-put k a x y d q h p r = r ∙ ap₂ (λ (m : ℕ) (t : List ℕ). putPart m a d t) q (copy-words k a x q h p)

@@ -1,14 +1,15 @@
 // Parts of a lent area: part i, of E words, begins at word (i - 1) × E, for i from 1 on. Each function but `zero_first` changes one part at most.
-// What a composition reads is copied first: a part that is written and one that is read cannot be lent at the same time.
+// What a composition reads is copied first: a part that is written and one that is read cannot be lent at the same time. The copies go into
+// arrays of the function that lends them, for an array by value is copied again on its way back.
 ghost use mathlib.Core.Path.{_≡_};
 ghost use Prim.Native.Nat.{_^_, _≤_, _<_};
 ghost use lib.ListN.{length};
-ghost use Rattle.lists.specs.Tab.{zeros, padded};
+ghost use Rattle.lists.specs.Tab.{zeros};
 ghost use Rattle.measures.specs.Kit.{kit, widthOf, joinOf};
 ghost use Rattle.area.specs.Parts.{Has, part, putPart, composeAt, copyAt, zeroAt, ownAt, zeroed};
 use model::Pick;
 
-// ---- copies of parts, by value
+// ---- copies of parts
 
 fn no_times() -> [u32; 2048]
     ensures { λ r. ⌜ r ≡ zeros 2048 ⌝ }
@@ -16,34 +17,13 @@ fn no_times() -> [u32; 2048]
     [0u32; 2048]
 }
 
-// The e words of xs, and zeros up to 2048, the words of the largest table.
-fn load_all(xs: &[u32], e: usize) -> [u32; 2048]
-    requires { ⌜ (e ≤ 2048) × (e ≡ length (now xs)) ⌝ }
-    ensures { λ r. ⌜ r ≡ padded 2048 (now (xs .entry)) ⌝ }
-{
-    let mut out = no_times();
-    for u in 0..e {
-        out[u] = xs[u];
-    }
-    out
-}
-
-// Part i, where a table has 32 words at most, as for measures 1 to 3; zeros behind it.
-fn links_part(area: &[u32], e: usize, i: usize) -> [u32; 32]
-    requires { ⌜ (e ≤ 32) × Has e (length (now area)) i ⌝ }
-    ensures { λ r. ⌜ r ≡ padded 32 (part e (now (area .entry)) i) ⌝ }
+// Copies part i over out, which has the words of a part.
+fn take_part(out: &mut [u32], area: &[u32], e: usize, i: usize)
+    requires { ⌜ (e ≡ length (now out)) × Has e (length (now area)) i ⌝ }
+    ensures { λ _. ⌜ now (out .exit) ≡ part e (now (area .entry)) i ⌝ }
 {
     let at = (i - 1) * e;
-    lists::load(&area[at..at + e], e)
-}
-
-// Part i, where a table has up to 2048 words, as for measure 4; zeros behind it.
-fn times_part(area: &[u32], e: usize, i: usize) -> [u32; 2048]
-    requires { ⌜ (e ≤ 2048) × Has e (length (now area)) i ⌝ }
-    ensures { λ r. ⌜ r ≡ padded 2048 (part e (now (area .entry)) i) ⌝ }
-{
-    let at = (i - 1) * e;
-    load_all(&area[at..at + e], e)
+    lists::copy_over(out, &area[at..at + e], e);
 }
 
 // ---- one part written
@@ -67,15 +47,35 @@ fn compose_into(area: &mut [u32], left: &[u32], right: &[u32], measure: usize, n
     measures::compose(&mut area[at..at + e], left, right, measure, n);
 }
 
+// Composes by way of left and right, which have a part's words each and take the copies.
+fn compose_by(
+    area: &mut [u32],
+    left: &mut [u32],
+    right: &mut [u32],
+    measure: usize,
+    n: usize,
+    d: usize,
+    l: usize,
+    r: usize,
+)
+    requires { ⌜ (n ≤ 32) × ((widthOf measure n ≡ length (now left)) × ((widthOf measure n ≡ length (now right)) × (Has (widthOf measure n) (length (now area)) d × (Has (widthOf measure n) (length (now area)) l × Has (widthOf measure n) (length (now area)) r)))) ⌝ }
+    ensures { λ _. ⌜ now (area .exit) ≡ composeAt (kit measure n) (now (area .entry)) d l r ⌝ }
+{
+    let e = measures::width(measure, n);
+    take_part(left, area, e, l);
+    take_part(right, area, e, r);
+    compose_into(area, left, right, measure, n, d);
+}
+
 // Composes where a table is no longer than 32 words: the copies are small.
 fn compose_links(area: &mut [u32], measure: usize, n: usize, d: usize, l: usize, r: usize)
     requires { ⌜ (widthOf measure n ≤ 32) × ((n ≤ 32) × (Has (widthOf measure n) (length (now area)) d × (Has (widthOf measure n) (length (now area)) l × Has (widthOf measure n) (length (now area)) r))) ⌝ }
     ensures { λ _. ⌜ now (area .exit) ≡ composeAt (kit measure n) (now (area .entry)) d l r ⌝ }
 {
     let e = measures::width(measure, n);
-    let left = links_part(area, e, l);
-    let right = links_part(area, e, r);
-    compose_into(area, &left[0..e], &right[0..e], measure, n, d);
+    let mut left = lists::no_words();
+    let mut right = lists::no_words();
+    compose_by(area, &mut left[0..e], &mut right[0..e], measure, n, d, l, r);
 }
 
 // Composes tables of any measure: only measure 4 needs copies of 2048 words.
@@ -84,9 +84,9 @@ fn compose_times(area: &mut [u32], measure: usize, n: usize, d: usize, l: usize,
     ensures { λ _. ⌜ now (area .exit) ≡ composeAt (kit measure n) (now (area .entry)) d l r ⌝ }
 {
     let e = measures::width(measure, n);
-    let left = times_part(area, e, l);
-    let right = times_part(area, e, r);
-    compose_into(area, &left[0..e], &right[0..e], measure, n, d);
+    let mut left = no_times();
+    let mut right = no_times();
+    compose_by(area, &mut left[0..e], &mut right[0..e], measure, n, d, l, r);
 }
 
 // Part d becomes the composition of part l, the earlier, and part r, the later; d may be l or r.
@@ -101,6 +101,33 @@ pub fn compose_parts(area: &mut [u32], measure: usize, n: usize, d: usize, l: us
     compose_links(area, measure, n, d, l, r);
 }
 
+// Copies by way of words, which has a part's words and takes the copy.
+fn copy_by(area: &mut [u32], words: &mut [u32], e: usize, d: usize, l: usize)
+    requires { ⌜ (e ≡ length (now words)) × (Has e (length (now area)) d × Has e (length (now area)) l) ⌝ }
+    ensures { λ _. ⌜ now (area .exit) ≡ putPart e (now (area .entry)) d (part e (now (area .entry)) l) ⌝ }
+{
+    take_part(words, area, e, l);
+    put_part(area, words, e, d);
+}
+
+// Copies where a table is no longer than 32 words.
+fn copy_links(area: &mut [u32], e: usize, d: usize, l: usize)
+    requires { ⌜ (e ≤ 32) × (Has e (length (now area)) d × Has e (length (now area)) l) ⌝ }
+    ensures { λ _. ⌜ now (area .exit) ≡ putPart e (now (area .entry)) d (part e (now (area .entry)) l) ⌝ }
+{
+    let mut words = lists::no_words();
+    copy_by(area, &mut words[0..e], e, d, l);
+}
+
+// Copies a table of up to 2048 words, as only measure 4 has.
+fn copy_times(area: &mut [u32], e: usize, d: usize, l: usize)
+    requires { ⌜ (e ≤ 2048) × (Has e (length (now area)) d × Has e (length (now area)) l) ⌝ }
+    ensures { λ _. ⌜ now (area .exit) ≡ putPart e (now (area .entry)) d (part e (now (area .entry)) l) ⌝ }
+{
+    let mut words = no_times();
+    copy_by(area, &mut words[0..e], e, d, l);
+}
+
 // Part d becomes part l; d may be l.
 pub fn copy_part(area: &mut [u32], measure: usize, n: usize, d: usize, l: usize)
     requires { ⌜ (n ≤ 32) × (Has (widthOf measure n) (length (now area)) d × Has (widthOf measure n) (length (now area)) l) ⌝ }
@@ -108,12 +135,10 @@ pub fn copy_part(area: &mut [u32], measure: usize, n: usize, d: usize, l: usize)
 {
     let e = measures::width(measure, n);
     if measure == 4 {
-        let t = times_part(area, e, l);
-        put_part(area, &t[0..e], e, d);
+        copy_times(area, e, d, l);
         return;
     }
-    let t = links_part(area, e, l);
-    put_part(area, &t[0..e], e, d);
+    copy_links(area, e, d, l);
 }
 
 // Part d becomes zero.

@@ -1,9 +1,7 @@
--- `area::compose_times` meets its contract: the first words of the copies are the parts.
+-- `area::compose_times` meets its contract: no table is longer than 2048 words.
 -- Assumes nothing.
-use mathlib.Core.Path.{_∙_}
 use native.Mathlib.Omega.{arith}
-use Rattle.area.specs.Parts.{composeAt}
-use Rattle.area.proofs.Lent.{has-at, copy-words, width-most}
+use Rattle.area.proofs.Lent.{width-most}
 use borrow.Author.Needs.{needs}
 use Rattle.area.proofs.compose_times.Statement.{statement}
 use Rattle.area.proofs.compose_times.Tie as tie
@@ -11,71 +9,58 @@ use Rattle.area.proofs.compose_times.Tie as tie
 width-requires : tie.Need-width-requires
 width-requires c κs = search needs
 
-times-part-requires : tie.Need-times-part-requires
-times-part-requires c κs = let q = c .before .width .ensures in let h = c .before .before .before .pre in (omega (arith, width-most (c .before .before .before .args .measure) _ (h .0)), has-at q (h .1 .1 .0))
+no-times-requires : tie.Need-no-times-requires
+no-times-requires c κs = search needs
 
-times-part-requires-2 : tie.Need-times-part-requires-2
-times-part-requires-2 c κs =
+no-times-requires-2 : tie.Need-no-times-requires-2
+no-times-requires-2 c κs = search needs
+
+sub-compose-by : tie.Need-sub-compose-by
+sub-compose-by c = search needs
+
+part-left-start : tie.Need-part-left-start
+part-left-start c = search needs
+
+part-left-end : tie.Need-part-left-end
+part-left-end c =
     let c5 = c .before .before .before .before .before in
     let q = c .before .before .before .width .ensures in
-    let h = c5 .pre in
-    (omega (arith, width-most (c5 .args .measure) _ (h .0)), has-at q (h .1 .1 .1))
+    omega (arith, width-most (c5 .args .measure) _ (c5 .pre .0))
 
-sub-compose-into : tie.Need-sub-compose-into
-sub-compose-into c = search needs
+sub-compose-by-2 : tie.Need-sub-compose-by-2
+sub-compose-by-2 c = search needs
 
-part-compose-into-start : tie.Need-part-compose-into-start
-part-compose-into-start c = search needs
+part-right-start : tie.Need-part-right-start
+part-right-start c = search needs
 
-part-compose-into-end : tie.Need-part-compose-into-end
-part-compose-into-end c =
-    let c8 = c .before .before .before .before .before .before .before .before in
-    let q = c .before .before .before .before .before .before .width .ensures in
-    omega (arith, width-most (c8 .args .measure) _ (c8 .pre .0))
+part-right-end : tie.Need-part-right-end
+part-right-end c =
+    let c6 = c .before .before .before .before .before .before in
+    let q = c .before .before .before .before .width .ensures in
+    omega (arith, width-most (c6 .args .measure) _ (c6 .pre .0))
 
-sub-compose-into-2 : tie.Need-sub-compose-into-2
-sub-compose-into-2 c = search needs
-
-part-compose-into-start-2 : tie.Need-part-compose-into-start-2
-part-compose-into-start-2 c = search needs
-
-part-compose-into-end-2 : tie.Need-part-compose-into-end-2
-part-compose-into-end-2 c =
-    let c10 = c .before .before .before .before .before .before .before .before .before .before in
-    let q = c .before .before .before .before .before .before .before .before .width .ensures in
-    omega (arith, width-most (c10 .args .measure) _ (c10 .pre .0))
-
-compose-into-requires : tie.Need-compose-into-requires
-compose-into-requires c κs = search needs
+compose-by-requires : tie.Need-compose-by-requires
+compose-by-requires c κs = search needs
 
 same-length : tie.Need-same-length
 same-length c = search needs
 
 returns : tie.Need-returns
-unfolding composeAt
-returns c =
-    let c12 = c .before .before .before .before .before .before .before .before .before .before .before .before in
-    let c14 = c12 .before .before in
-    c .before .before .compose-into .ensures ∙ simp (
-      copy-words 2048 _ _ (c12 .width .ensures) (c14 .pre .1 .1 .0)
-          (c .before .before .before .before .before .before .before .before .before .before .times-part .ensures),
-      copy-words 2048 _ _ (c12 .width .ensures)
-          (c14 .pre .1 .1 .1) (c .before .before .before .before .before .before .before .before .times-part2 .ensures),
-    )
+returns c = search needs
 
 pub compose-times-spec : {M : Type 1} → statement M
 compose-times-spec =
     tie.close
     (tie.spec
     width-requires
-    times-part-requires
-    times-part-requires-2
-    sub-compose-into
-    part-compose-into-start
-    part-compose-into-end
-    sub-compose-into-2
-    part-compose-into-start-2
-    part-compose-into-end-2
-    compose-into-requires
+    no-times-requires
+    no-times-requires-2
+    sub-compose-by
+    part-left-start
+    part-left-end
+    sub-compose-by-2
+    part-right-start
+    part-right-end
+    compose-by-requires
     same-length
     returns)

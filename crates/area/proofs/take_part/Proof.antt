@@ -1,0 +1,55 @@
+-- `area::take_part` meets its contract. The part that is lent has `at + e - at` words, which is e.
+-- Assumes nothing.
+use native.Mathlib.Omega.{arith}
+use native.Mathlib.Nat.{add-sub-cancel-left}
+use Rattle.area.specs.Parts.{part}
+use Rattle.area.proofs.Lent.{fits}
+use borrow.Author.Needs.{needs}
+use Rattle.area.proofs.take_part.Statement.{statement}
+use Rattle.area.proofs.take_part.Tie as tie
+
+sub-at : tie.Need-sub-at
+sub-at c = search needs
+
+mul-at : tie.Need-mul-at
+mul-at c = omega (arith, fits (c .before .before .pre .1))
+
+add-copy-over : tie.Need-add-copy-over
+add-copy-over c = omega (arith, fits (c .before .before .before .pre .1))
+
+mul-copy-over : tie.Need-mul-copy-over
+mul-copy-over c = omega (arith, fits (c .before .before .before .pre .1))
+
+sub-copy-over : tie.Need-sub-copy-over
+sub-copy-over c = search needs
+
+part-copy-over-start : tie.Need-part-copy-over-start
+part-copy-over-start c = search needs
+
+part-copy-over-end : tie.Need-part-copy-over-end
+part-copy-over-end c = omega (arith, fits (c .before .before .before .pre .1))
+
+copy-over-requires : tie.Need-copy-over-requires
+copy-over-requires c κs = search needs
+
+same-length : tie.Need-same-length
+same-length c = search needs
+
+returns : tie.Need-returns
+unfolding part
+returns c = simp add-sub-cancel-left at (c .before .before .copy-over .ensures)
+
+pub take-part-spec : {M : Type 1} → statement M
+take-part-spec =
+    tie.close
+    (tie.spec
+    sub-at
+    mul-at
+    add-copy-over
+    mul-copy-over
+    sub-copy-over
+    part-copy-over-start
+    part-copy-over-end
+    copy-over-requires
+    same-length
+    returns)
