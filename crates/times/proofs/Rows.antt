@@ -4,15 +4,15 @@ use mathlib.Core.Bool.{Bool, true, false}
 use mathlib.Core.List.{List, _++_, append-nil, append-assoc}
 use Prim.Native.Nat.{ℕ, suc, _+_, _*_, _-_, _≤_, _<_, zero-le}
 use native.Mathlib.Numerals.{add-one}
-use native.Mathlib.Nat.{add-zero, sub-zero, zero-mul, suc-mul, mul-le-mul-right, le-of-eq, add-sub-cancel-left}
+use native.Mathlib.Nat.{sub-zero, zero-mul, suc-mul, mul-le-mul-right, le-of-eq, add-sub-cancel-left}
 use native.Mathlib.Omega.{arith}
-use lib.Dec.{eqb, leb}
+use lib.Dec.{eqb}
 use lib.ListN.{length, take, drop, set, getD, length-append, length-drop, length-set, drop-of-length-le}
 use lib.Seq.{take-at, drop-at, drop-drop, take-all, length-take-le, getD-drop, getD-set-same, getD-set-other, ext-getD}
 use borrow.Author.Tests.{eqb-true, eqb-false}
 use Rattle.lists.specs.Tab.{tab}
 use Rattle.lists.proofs.Tab.{length-tab, getD-tab}
-use Rattle.times.specs.Times.{rows, after, apart, choose, arr, inTime}
+use Rattle.times.specs.Times.{rows, apart, choose}
 use Rattle.times.proofs.Cells.{length-rows}
 
 -- ---- places
@@ -103,11 +103,3 @@ row-last f g n u xs e h q =
     rw e
     (ext-getD 0 (set (tab f n) u 0) (tab g n) (k ∙ sym (length-tab g n))
     (λ v l. row-word f n u v (eqb u v) refl h (omega arith) ∙ q v ∙ sym (getD-tab g n v (omega arith))))
-
--- ---- test
-
--- the last question of a pair, where the others are answered
-pub in-time-last : (n : ℕ) (t : List ℕ) (u v : ℕ) → eqb u v ≡ false → eqb (arr n t u v) 0 ≡ false → eqb (arr n t v u) 0 ≡ false
-    → leb (getD t (u * n + v) 0) (getD t (n * n + (v * n + u)) 0) ≡ inTime n 0 t u v
-unfolding inTime
-in-time-last n t u v a b c = rw (a, b, c, add-zero, getD-drop)

@@ -5,7 +5,8 @@ ghost use mathlib.Core.Path.{_≡_};
 ghost use Prim.Native.Nat.{_+_, _*_, _^_, _≤_, _<_};
 ghost use lib.ListN.{length};
 ghost use Rattle.lists.specs.Tab.{tab};
-ghost use Rattle.times.specs.Times.{rows, ownTime, ownTimes, inTime, rowInTime, allInTime};
+ghost use Rattle.times.specs.Times.{rows, ownTime, ownTimes, allInTime};
+ghost use Rattle.times.specs.Pairs.{noLater, pairInTime, belowInTime};
 use lists::keep;
 use model::Board;
 use model::Pick;
@@ -48,34 +49,36 @@ pub fn own(out: &mut [u32], joined: &[u32], n: usize, pick: Pick)
 
 // ---- test
 
-// Whether light goes from a to b and back within the table: it arrives at b at or before the departure of the way back.
+// Whether x is a time, no later than y. No time, 0, less 1 is the greatest word, so that one comparison asks both.
+fn no_later(x: u32, y: u32) -> bool
+    ensures { λ r. ⌜ r ≡ noLater x y ⌝ }
+{
+    std::num::wrapping_sub_u32(x, 1) < y
+}
+
+// Whether light goes from a to b and back within the table, and from b to a and back: it arrives at or before the departure of the way back.
 fn pair_in_time(t: &[u32], n: usize, a: Board, b: Board) -> bool
-    requires { ⌜ (n ≤ 32) × ((a .0 < n) × ((b .0 < n) × (n * n + n * n ≤ length (now t)))) ⌝ }
-    ensures { λ r. ⌜ r ≡ inTime n 0 (now (t .entry)) (a .0) (b .0) ⌝ }
+    requires { ⌜ (n ≤ 32) × ((a .0 < n) × ((b .0 < a .0) × (n * n + n * n ≤ length (now t)))) ⌝ }
+    ensures { λ r. ⌜ r ≡ pairInTime n (now (t .entry)) (a .0) (b .0) ⌝ }
 {
     let u = a.0;
     let v = b.0;
-    if u == v {
-        return true;
-    }
     let there = u * n + v;
     let back = v * n + u;
-    if t[there] == 0 {
+    let half = n * n;
+    if !no_later(t[there], t[half + back]) {
         return false;
     }
-    if t[back] == 0 {
-        return false;
-    }
-    let leave = n * n + back;
-    t[there] <= t[leave]
+    no_later(t[back], t[half + there])
 }
 
+// Whether a board is in time with each board below it.
 fn row_in_time(t: &[u32], n: usize, from: Board) -> bool
     requires { ⌜ (n ≤ 32) × ((from .0 < n) × (n * n + n * n ≤ length (now t))) ⌝ }
-    ensures { λ r. ⌜ r ≡ rowInTime n 0 (now (t .entry)) (from .0) ⌝ }
+    ensures { λ r. ⌜ r ≡ belowInTime n (now (t .entry)) (from .0) ⌝ }
 {
     let u = from.0;
-    for v in 0..n {
+    for v in 0..u {
         if !pair_in_time(t, n, Board(u), Board(v)) {
             return false;
         }
@@ -83,7 +86,7 @@ fn row_in_time(t: &[u32], n: usize, from: Board) -> bool
     true
 }
 
-// Whether each pair of boards is in time.
+// Whether each pair of boards is in time. A pair is looked at once, for both ways round.
 pub fn in_time(t: &[u32], n: usize) -> bool
     requires { ⌜ (n ≤ 32) × (n * n + n * n ≤ length (now t)) ⌝ }
     ensures { λ r. ⌜ r ≡ allInTime n 0 (now (t .entry)) ⌝ }

@@ -1,4 +1,4 @@
--- `times::in_time` meets its contract. The invariant: the rows below `u` are in time.
+-- `times::in_time` meets its contract. The invariant: the boards below `u` are in time with those below them.
 -- Assumes nothing.
 use mathlib.Core.Bool.{true}
 use mathlib.Core.Path.{_≡_, sym, _∙_}
@@ -7,13 +7,14 @@ use native.Mathlib.Omega.{arith}
 use borrow.Author.Tests.{not-true, not-false}
 use Rattle.lists.specs.Tab.{every}
 use Rattle.lists.proofs.Tab.{every-none, every-next, every-stop}
-use Rattle.times.specs.Times.{rowInTime, allInTime}
+use Rattle.times.specs.Pairs.{belowInTime}
+use Rattle.times.proofs.Pairs.{below-all}
 use borrow.Author.Needs.{needs}
 use Rattle.times.proofs.in_time.Statement.{statement}
 use Rattle.times.proofs.in_time.Tie as tie
 
 abbrev Inv-loop : tie.InvT-loop
-Inv-loop t n u₀ u = (u ≤ n) × (every (rowInTime n 0 t) u ≡ true)
+Inv-loop t n u₀ u = (u ≤ n) × (every (belowInTime n t) u ≡ true)
 
 abbrev μ-loop : tie.MeasureT-loop
 μ-loop t n u₀ u = n - u
@@ -25,8 +26,7 @@ row-in-time-requires : tie.Need-row-in-time-requires Inv-loop μ-loop
 row-in-time-requires c κs = search needs
 
 returns : tie.Need-returns Inv-loop μ-loop
-unfolding allInTime
-returns c = sym (every-stop _ _ _ (c .before .before .loop-test .taken) (sym (c .before .row-in-time .ensures) ∙ not-true _ (c .if1 .taken)))
+returns c = sym (every-stop _ _ _ (c .before .before .loop-test .taken) (sym (c .before .row-in-time .ensures) ∙ not-true _ (c .if1 .taken))) ∙ below-all _ _
 
 add-u : tie.Need-add-u Inv-loop μ-loop
 add-u c = search needs
@@ -41,8 +41,7 @@ loop-again c = (
 )
 
 returns-2 : tie.Need-returns-2 Inv-loop μ-loop
-unfolding allInTime
-returns-2 c = let e : c .before .loop .u ≡ c .before .before .before .args .n = omega arith in sym (rw e at (c .before .loop .inv .1))
+returns-2 c = let e : c .before .loop .u ≡ c .before .before .before .args .n = omega arith in sym (rw e at (c .before .loop .inv .1)) ∙ below-all _ _
 
 pub in-time-spec : {M : Type 1} → statement M
 in-time-spec =

@@ -1,90 +1,100 @@
--- `times::pair_in_time` meets its contract. Each return rewrites with the tests on its way.
+-- `times::pair_in_time` meets its contract: each return is one of the two questions, where the others are answered.
 -- Assumes nothing.
-use Rattle.times.proofs.Rows.{cell-lt, in-time-last}
+use mathlib.Core.Path.{sym, _∙_}
+use Prim.Native.Nat.{_+_, _*_, _<_}
 use native.Mathlib.Omega.{arith}
-use borrow.Author.Tests.{eq-eqb, ne-eqb}
-use Rattle.times.specs.Times.{inTime}
+use borrow.Author.Tests.{not-true, not-false}
+use Rattle.times.proofs.Pairs.{pair-lt, pair-not, pair-last}
 use borrow.Author.Needs.{needs}
 use Rattle.times.proofs.pair_in_time.Statement.{statement}
 use Rattle.times.proofs.pair_in_time.Tie as tie
 
-returns : tie.Need-returns
-unfolding inTime
-returns c = simp (eq-eqb _ _ (c .if1 .taken))
+-- the places of the pair's words, from what the function starts with
+pairs : (c : tie.Start)
+    → (c .args .a .0 * c .args .n + c .args .b .0 < c .args .n * c .args .n) × (c .args .b .0 * c .args .n + c .args .a .0 < c .args .n * c .args .n)
+pairs c = pair-lt (c .args .n) (c .pre .1 .0) (c .pre .1 .1 .0)
 
 mul-there : tie.Need-mul-there
-mul-there c = omega (arith, cell-lt _ (c .before .pre .1 .0) (c .before .pre .1 .1 .0))
+mul-there c = let p = pairs (c .before) in omega (arith, p .0)
 
 add-there : tie.Need-add-there
-add-there c = omega (arith, cell-lt _ (c .before .pre .1 .0) (c .before .pre .1 .1 .0))
+add-there c = let p = pairs (c .before) in omega (arith, p .0)
 
 mul-back : tie.Need-mul-back
-mul-back c = omega (arith, cell-lt _ (c .before .pre .1 .1 .0) (c .before .pre .1 .0))
+mul-back c = let p = pairs (c .before) in omega (arith, p .1)
 
 add-back : tie.Need-add-back
-add-back c = omega (arith, cell-lt _ (c .before .pre .1 .1 .0) (c .before .pre .1 .0))
+add-back c = let p = pairs (c .before) in omega (arith, p .1)
 
-mul-if2 : tie.Need-mul-if2
-mul-if2 c = omega (arith, cell-lt _ (c .before .pre .1 .0) (c .before .pre .1 .1 .0))
+mul-half : tie.Need-mul-half
+mul-half c = search needs
 
-shared-slice-read-if2 : tie.Need-shared-slice-read-if2
-shared-slice-read-if2 c = omega (arith, cell-lt _ (c .before .before .pre .1 .0) (c .before .before .pre .1 .1 .0))
+mul-no-later : tie.Need-mul-no-later
+mul-no-later c = let p = pairs (c .before) in omega (arith, p .0)
+
+shared-slice-read-no-later : tie.Need-shared-slice-read-no-later
+shared-slice-read-no-later c = let p = pairs (c .before .before) in omega (arith, p .0)
+
+add-no-later : tie.Need-add-no-later
+add-no-later c = let p = pairs (c .before .before) in omega (arith, p .1)
+
+mul-no-later-2 : tie.Need-mul-no-later-2
+mul-no-later-2 c = let p = pairs (c .before .before) in omega (arith, p .1)
+
+shared-slice-read-no-later-2 : tie.Need-shared-slice-read-no-later-2
+shared-slice-read-no-later-2 c = let p = pairs (c .before .before .before) in omega (arith, p .1)
+
+no-later-requires : tie.Need-no-later-requires
+no-later-requires c κs = search needs
+
+returns : tie.Need-returns
+returns c =
+    let s = c .before .before .before .before .before in
+    pair-not (s .args .n) (s .args .t .now) (s .args .a .0) (s .args .b .0) (s .pre .1 .1 .0) (sym (c .before .no-later .ensures) ∙ not-true _ (c .if1 .taken))
+
+mul-no-later-3 : tie.Need-mul-no-later-3
+mul-no-later-3 c = let p = pairs (c .before .before .before .before .before) in omega (arith, p .1)
+
+shared-slice-read-no-later-3 : tie.Need-shared-slice-read-no-later-3
+shared-slice-read-no-later-3 c = let p = pairs (c .before .before .before .before .before .before) in omega (arith, p .1)
+
+add-no-later-2 : tie.Need-add-no-later-2
+add-no-later-2 c = let p = pairs (c .before .before .before .before .before .before) in omega (arith, p .0)
+
+mul-no-later-4 : tie.Need-mul-no-later-4
+mul-no-later-4 c = let p = pairs (c .before .before .before .before .before .before) in omega (arith, p .0)
+
+shared-slice-read-no-later-4 : tie.Need-shared-slice-read-no-later-4
+shared-slice-read-no-later-4 c = let p = pairs (c .before .before .before .before .before .before .before) in omega (arith, p .0)
+
+no-later-requires-2 : tie.Need-no-later-requires-2
+no-later-requires-2 c κs = search needs
 
 returns-2 : tie.Need-returns-2
-unfolding inTime
-returns-2 c = simp (ne-eqb _ _ (c .before .before .if1 .left), eq-eqb _ _ (c .if2 .taken))
-
-mul-if3 : tie.Need-mul-if3
-mul-if3 c = omega (arith, cell-lt _ (c .before .before .before .pre .1 .1 .0) (c .before .before .before .pre .1 .0))
-
-shared-slice-read-if3 : tie.Need-shared-slice-read-if3
-shared-slice-read-if3 c = omega (arith, cell-lt _ (c .before .before .before .before .pre .1 .1 .0) (c .before .before .before .before .pre .1 .0))
-
-returns-3 : tie.Need-returns-3
-unfolding inTime
-returns-3 c = simp (ne-eqb _ _ (c .before .before .before .before .if1 .left), ne-eqb _ _ (c .before .before .if2 .left), eq-eqb _ _ (c .if3 .taken))
-
-mul-leave : tie.Need-mul-leave
-mul-leave c = search needs
-
-add-leave : tie.Need-add-leave
-add-leave c = omega (arith, cell-lt _ (c .before .before .before .before .before .pre .1 .1 .0) (c .before .before .before .before .before .pre .1 .0))
-
-mul-result : tie.Need-mul-result
-mul-result c = omega (arith, cell-lt _ (c .before .before .before .before .before .pre .1 .0) (c .before .before .before .before .before .pre .1 .1 .0))
-
-shared-slice-read-result : tie.Need-shared-slice-read-result
-shared-slice-read-result c = omega (arith, cell-lt _ (c .before .before .before .before .before .before .pre .1 .0) (c .before .before .before .before .before .before .pre .1 .1 .0))
-
-mul-result-2 : tie.Need-mul-result-2
-mul-result-2 c = omega (arith, cell-lt _ (c .before .before .before .before .before .before .pre .1 .1 .0) (c .before .before .before .before .before .before .pre .1 .0))
-
-shared-slice-read-result-2 : tie.Need-shared-slice-read-result-2
-shared-slice-read-result-2 c = omega (arith, cell-lt _ (c .before .before .before .before .before .before .before .pre .1 .1 .0) (c .before .before .before .before .before .before .before .pre .1 .0))
-
-returns-4 : tie.Need-returns-4
-returns-4 c =
-    in-time-last (c .before .before .before .before .before .before .before .args .n) (c .before .before .before .before .before .before .before .args .t .now) (c .before .before .before .before .before .before .before .args .a .0) (c .before .before .before .before .before .before .before .args .b .0) (ne-eqb _ _ (c .before .before .before .before .before .before .if1 .left)) (ne-eqb _ _ (c .before .before .before .before .if2 .left)) (ne-eqb _ _ (c .before .before .if3 .left))
+returns-2 c =
+    let s = c .before .before .before .before .before .before .before .before in
+    c .no-later2 .ensures ∙ pair-last (s .args .n) (s .args .t .now) (s .args .a .0) (s .args .b .0) (s .pre .1 .1 .0) (sym (c .before .before .before .before .no-later .ensures) ∙ not-false _ (c .before .before .before .if1 .left))
 
 pub pair-in-time-spec : {M : Type 1} → statement M
 pair-in-time-spec =
     tie.close
     (tie.spec
-    returns
     mul-there
     add-there
     mul-back
     add-back
-    mul-if2
-    shared-slice-read-if2
-    returns-2
-    mul-if3
-    shared-slice-read-if3
-    returns-3
-    mul-leave
-    add-leave
-    mul-result
-    shared-slice-read-result
-    mul-result-2
-    shared-slice-read-result-2
-    returns-4)
+    mul-half
+    mul-no-later
+    shared-slice-read-no-later
+    add-no-later
+    mul-no-later-2
+    shared-slice-read-no-later-2
+    no-later-requires
+    returns
+    mul-no-later-3
+    shared-slice-read-no-later-3
+    add-no-later-2
+    mul-no-later-4
+    shared-slice-read-no-later-4
+    no-later-requires-2
+    returns-2)

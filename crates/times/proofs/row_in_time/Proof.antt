@@ -1,4 +1,4 @@
--- `times::row_in_time` meets its contract. The invariant: the pairs below `v` are in time.
+-- `times::row_in_time` meets its contract. The invariant: the boards below `v` are in time with `u`.
 -- Assumes nothing.
 use mathlib.Core.Bool.{true}
 use mathlib.Core.Path.{_≡_, sym, _∙_}
@@ -7,16 +7,16 @@ use native.Mathlib.Omega.{arith}
 use borrow.Author.Tests.{not-true, not-false}
 use Rattle.lists.specs.Tab.{every}
 use Rattle.lists.proofs.Tab.{every-none, every-next, every-stop}
-use Rattle.times.specs.Times.{inTime, rowInTime}
+use Rattle.times.specs.Pairs.{pairInTime, belowInTime}
 use borrow.Author.Needs.{needs}
 use Rattle.times.proofs.row_in_time.Statement.{statement}
 use Rattle.times.proofs.row_in_time.Tie as tie
 
 abbrev Inv-loop : tie.InvT-loop
-Inv-loop t n u v₀ v = (v ≤ n) × (every (inTime n 0 t u) v ≡ true)
+Inv-loop t n u v₀ v = (v ≤ u) × (every (pairInTime n t u) v ≡ true)
 
 abbrev μ-loop : tie.MeasureT-loop
-μ-loop t n u v₀ v = n - v
+μ-loop t n u v₀ v = u - v
 
 loop-holds : tie.Need-loop-holds Inv-loop μ-loop
 loop-holds c = (search needs, every-none _)
@@ -25,7 +25,7 @@ pair-in-time-requires : tie.Need-pair-in-time-requires Inv-loop μ-loop
 pair-in-time-requires c κs = search needs
 
 returns : tie.Need-returns Inv-loop μ-loop
-unfolding rowInTime
+unfolding belowInTime
 returns c = sym (every-stop _ _ _ (c .before .before .loop-test .taken) (sym (c .before .pair-in-time .ensures) ∙ not-true _ (c .if1 .taken)))
 
 add-v : tie.Need-add-v Inv-loop μ-loop
@@ -41,8 +41,8 @@ loop-again c = (
 )
 
 returns-2 : tie.Need-returns-2 Inv-loop μ-loop
-unfolding rowInTime
-returns-2 c = let e : c .before .loop .v ≡ c .before .before .before .args .n = omega arith in sym (rw e at (c .before .loop .inv .1))
+unfolding belowInTime
+returns-2 c = let e : c .before .loop .v ≡ c .before .before .before .args .from .0 = omega arith in sym (rw e at (c .before .loop .inv .1))
 
 pub row-in-time-spec : {M : Type 1} → statement M
 row-in-time-spec =
