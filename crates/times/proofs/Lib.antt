@@ -3,3 +3,4 @@ pub mod Cells
 pub mod Rows
 pub mod Times
 pub mod Pairs
+pub mod Twice

@@ -3,7 +3,8 @@
 // selects that the compiler turns into vector code. Their composition is in `folds`.
 ghost use mathlib.Core.Path.{_≡_};
 ghost use Prim.Native.Nat.{_+_, _*_, _^_, _≤_, _<_};
-ghost use lib.ListN.{length};
+ghost use mathlib.Core.List.{_++_};
+ghost use lib.ListN.{length, take};
 ghost use Rattle.lists.specs.Tab.{tab};
 ghost use Rattle.times.specs.Times.{rows, ownTime, ownTimes, allInTime};
 ghost use Rattle.times.specs.Pairs.{noLater, pairInTime, belowInTime};
@@ -37,6 +38,16 @@ fn own_half(half: &mut [u32], joined: &[u32], n: usize, pick: Pick)
     }
 }
 
+// Copies the first m words over those behind them.
+fn copy_half(out: &mut [u32], m: usize)
+    requires { ⌜ m + m ≡ length (now out) ⌝ }
+    ensures { λ _. ⌜ now (out .exit) ≡ take m (now (out .entry)) ++ take m (now (out .entry)) ⌝ }
+{
+    for i in 0..m {
+        out[m + i] = out[i];
+    }
+}
+
 // Writes over out the own table of a pick, where joined marks the pairs joined within it: its number for each of them, in both halves.
 pub fn own(out: &mut [u32], joined: &[u32], n: usize, pick: Pick)
     requires { ⌜ (n ≤ 32) × ((pick .0 < 2 ^ 32) × ((n * n + n * n ≡ length (now out)) × (n ≤ length (now joined)))) ⌝ }
@@ -44,7 +55,7 @@ pub fn own(out: &mut [u32], joined: &[u32], n: usize, pick: Pick)
 {
     let m = n * n;
     own_half(&mut out[0..m], joined, n, pick);
-    own_half(&mut out[m..m + m], joined, n, pick);
+    copy_half(out, m);
 }
 
 // ---- test

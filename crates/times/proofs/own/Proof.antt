@@ -1,7 +1,8 @@
--- `times::own` meets its contract. What the calls ensure of the halves, put together by `halves`.
+-- `times::own` meets its contract: the first half is its rows, and the second a copy of it.
 -- Assumes nothing.
+use mathlib.Core.Path.{_∙_}
 use Rattle.times.specs.Times.{ownTime, ownTimes}
-use Rattle.times.proofs.Rows.{halves}
+use Rattle.times.proofs.Twice.{first-rows}
 use borrow.Author.Needs.{needs}
 use Rattle.times.proofs.own.Statement.{statement}
 use Rattle.times.proofs.own.Tie as tie
@@ -21,23 +22,8 @@ part-own-half-end c = search needs
 own-half-requires : tie.Need-own-half-requires
 own-half-requires c κs = search needs
 
-add-own-half : tie.Need-add-own-half
-add-own-half c = search needs
-
-mul-own-half : tie.Need-mul-own-half
-mul-own-half c = search needs
-
-sub-own-half-2 : tie.Need-sub-own-half-2
-sub-own-half-2 c = search needs
-
-part-own-half-start-2 : tie.Need-part-own-half-start-2
-part-own-half-start-2 c = search needs
-
-part-own-half-end-2 : tie.Need-part-own-half-end-2
-part-own-half-end-2 c = search needs
-
-own-half-requires-2 : tie.Need-own-half-requires-2
-own-half-requires-2 c κs = search needs
+copy-half-requires : tie.Need-copy-half-requires
+copy-half-requires c κs = search needs
 
 same-length : tie.Need-same-length
 same-length c = search needs
@@ -45,8 +31,10 @@ same-length c = search needs
 returns : tie.Need-returns
 unfolding ownTimes
 returns c =
-    let f = ownTime (c .before .before .before .before .before .before .before .before .before .before .args .pick .0) (c .before .before .before .before .before .before .before .before .before .before .args .joined .now) in
-    halves (c .before .before .before .before .before .before .before .before .before .before .args .n) f f (c .before .before .before .before .before .before .own-half .last .0) (c .before .before .own-half2 .last .0) (c .before .before .before .before .before .before .before .before .before .before .args .out .now) (c .before .before .before .before .before .before .before .before .before .before .pre .1 .1 .0) (c .before .before .before .before .before .before .own-half .ensures) (c .before .before .own-half2 .ensures)
+    let c6 = c .before .before .before .before .before .before in
+    let s = c6 .before .before .before .before in
+    let f = ownTime (s .args .pick .0) (s .args .joined .now) in
+    c .before .before .copy-half .ensures ∙ rw (first-rows (s .args .n) f (c6 .own-half .last .0) (s .args .out .now) (c6 .own-half .ensures))
 
 pub own-spec : {M : Type 1} → statement M
 own-spec =
@@ -57,11 +45,6 @@ own-spec =
     part-own-half-start
     part-own-half-end
     own-half-requires
-    add-own-half
-    mul-own-half
-    sub-own-half-2
-    part-own-half-start-2
-    part-own-half-end-2
-    own-half-requires-2
+    copy-half-requires
     same-length
     returns)
