@@ -8,22 +8,19 @@ use Rattle.compare.proofs.print_generated.Statement.{statement}
 use Rattle.compare.proofs.print_generated.Tie as tie
 
 abbrev Inv-loop : tie.InvT-loop
-Inv-loop name kind words₀ area₀ measure₀ words area measure = (length words ≡ length words₀) × (length area ≡ length area₀)
+Inv-loop group kind words₀ area₀ measure₀ words area measure = (length words ≡ length words₀) × (length area ≡ length area₀)
 
 abbrev μ-loop : tie.MeasureT-loop
-μ-loop name kind words₀ area₀ measure₀ words area measure = 5 - measure
+μ-loop group kind words₀ area₀ measure₀ words area measure = 5 - measure
 
 loop-holds : tie.Need-loop-holds Inv-loop μ-loop
 loop-holds c = search needs
 
-write-all-requires : tie.Need-write-all-requires Inv-loop μ-loop
-write-all-requires c κs = search needs
+run-all-requires : tie.Need-run-all-requires Inv-loop μ-loop
+run-all-requires c κs = search needs
 
-generated-requires : tie.Need-generated-requires Inv-loop μ-loop
-generated-requires c κs = search needs
-
-print-line-requires : tie.Need-print-line-requires Inv-loop μ-loop
-print-line-requires c κs = search needs
+print-group-requires : tie.Need-print-group-requires Inv-loop μ-loop
+print-group-requires c κs = search needs
 
 add-measure : tie.Need-add-measure Inv-loop μ-loop
 add-measure c = search needs
@@ -50,9 +47,8 @@ print-generated-spec =
     Inv-loop
     μ-loop
     loop-holds
-    write-all-requires
-    generated-requires
-    print-line-requires
+    run-all-requires
+    print-group-requires
     add-measure
     loop-less
     loop-again

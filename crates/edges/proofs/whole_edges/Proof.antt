@@ -1,0 +1,78 @@
+-- `edges::whole_edges` is safe and ends.
+-- Assumes nothing.
+use mathlib.Core.Path.{_≡_}
+use lib.ListN.{length}
+use Prim.Native.Nat.{_-_}
+use borrow.Author.Needs.{needs}
+use Rattle.edges.proofs.whole_edges.Statement.{statement}
+use Rattle.edges.proofs.whole_edges.Tie as tie
+use Rattle.rows.proofs.whole_edge.Reads as whole-edge-reads′
+
+abbrev Inv-loop : tie.InvT-loop
+Inv-loop words₀ area₀ t₀ i₀ t7 t8 words area t i = (length words ≡ length words₀) × (length area ≡ length area₀)
+
+abbrev μ-loop : tie.MeasureT-loop
+μ-loop words₀ area₀ t₀ i₀ t7 t8 words area t i = 40 - i
+
+loop-holds : tie.Need-loop-holds Inv-loop μ-loop
+loop-holds c = search needs
+
+whole-edge-requires : tie.Need-whole-edge-requires Inv-loop μ-loop
+whole-edge-requires c κs = search needs
+
+whole-edge-requires-2 : tie.Need-whole-edge-requires-2 Inv-loop μ-loop
+whole-edge-requires-2 c κs = search needs
+
+slice-aggregate-compared : tie.Need-slice-aggregate-compared Inv-loop μ-loop
+slice-aggregate-compared c = search needs
+
+slice-aggregate-compared-2 : tie.Need-slice-aggregate-compared-2 Inv-loop μ-loop
+slice-aggregate-compared-2 c = search needs
+
+row-requires : tie.Need-row-requires Inv-loop μ-loop
+row-requires c κs = search needs
+
+refused-requires : tie.Need-refused-requires Inv-loop μ-loop
+refused-requires c κs = search needs
+
+compared-requires : tie.Need-compared-requires Inv-loop μ-loop
+compared-requires c κs = search needs
+
+add-i : tie.Need-add-i Inv-loop μ-loop
+add-i c = search needs
+
+loop-less : tie.Need-loop-less Inv-loop μ-loop
+loop-less c = search needs
+
+loop-again : tie.Need-loop-again Inv-loop μ-loop
+loop-again c = search needs
+
+same-length : tie.Need-same-length Inv-loop μ-loop
+same-length c = search needs
+
+same-length-2 : tie.Need-same-length-2 Inv-loop μ-loop
+same-length-2 c = search needs
+
+returns : tie.Need-returns Inv-loop μ-loop
+returns c = search needs
+
+pub whole-edges-spec : {M : Type 1} → statement M
+whole-edges-spec =
+    tie.close
+    (tie.spec
+    Inv-loop
+    μ-loop
+    loop-holds
+    whole-edge-requires
+    whole-edge-requires-2
+    slice-aggregate-compared
+    slice-aggregate-compared-2
+    row-requires
+    refused-requires
+    compared-requires
+    add-i
+    loop-less
+    loop-again
+    same-length
+    same-length-2
+    returns)
