@@ -1,5 +1,4 @@
 // Runs the rows of `rows` for the calls that are handed no place, and for the reader. Wherever a call refuses, every lent word must stay.
-ghost use Prim.Native.Nat.{_<_};
 use calls::Opening;
 use place::Place;
 use recording::Reading;
@@ -7,23 +6,11 @@ use rows::OpenEdge;
 use rows::ReadEdge;
 use rows::TableEdge;
 use rows::WholeEdge;
-use tallies::Case;
 use tallies::Outcome;
 use tallies::Tally;
 
 // Stands in every lent word before a call, so that a word that was written shows.
 const MARK: u32 = 2779096485;
-
-// Row i of a table of edges is case i + 1.
-fn row(i: usize) -> Case
-    requires { ⌜ i < 100 ⌝ }
-{
-    Case {
-        number: i + 1,
-        measure: 0,
-        part: 0,
-    }
-}
 
 // ---- a whole run
 
@@ -48,19 +35,12 @@ fn whole_edge(e: WholeEdge, words: &mut [u32], area: &mut [u32]) -> Outcome {
     run_whole(e.0, e.1, &words[0..lent], &mut area[0..room])
 }
 
-pub fn whole_edges(words: &mut [u32], area: &mut [u32]) -> Tally {
+pub fn whole_edges(group: &[u8], words: &mut [u32], area: &mut [u32]) -> Tally {
     let mut t = tallies::NO_CASES;
     for i in 0..40 {
         let e = rows::whole_edge(i);
         let got = whole_edge(e, words, area);
-        t = tallies::compared(
-            t,
-            b"edges-whole",
-            b"row",
-            row(i),
-            got,
-            tallies::refused(e.6),
-        );
+        t = tallies::edge(t, group, i, 0, got, e.6);
     }
     t
 }
@@ -87,19 +67,12 @@ fn table_edge(e: TableEdge, words: &mut [u32], out: &mut [u32]) -> Outcome {
     run_table(e.0, &words[0..lent], &mut out[0..room])
 }
 
-pub fn table_edges(words: &mut [u32], out: &mut [u32]) -> Tally {
+pub fn table_edges(group: &[u8], words: &mut [u32], out: &mut [u32]) -> Tally {
     let mut t = tallies::NO_CASES;
     for i in 0..24 {
         let e = rows::table_edge(i);
         let got = table_edge(e, words, out);
-        t = tallies::compared(
-            t,
-            b"edges-table",
-            b"row",
-            row(i),
-            got,
-            tallies::refused(e.5),
-        );
+        t = tallies::edge(t, group, i, 0, got, e.5);
     }
     t
 }
@@ -140,12 +113,12 @@ fn open_edge(e: OpenEdge, list: &mut [u32], area: &mut [u32]) -> Outcome {
     run_open(e.0, e.1, e.2, &list[0..lent], &mut area[0..room])
 }
 
-pub fn open_edges(list: &mut [u32], area: &mut [u32]) -> Tally {
+pub fn open_edges(group: &[u8], list: &mut [u32], area: &mut [u32]) -> Tally {
     let mut t = tallies::NO_CASES;
     for i in 0..36 {
         let e = rows::open_edge(i);
         let got = open_edge(e, list, area);
-        t = tallies::compared(t, b"edges-open", b"row", row(i), got, tallies::refused(e.6));
+        t = tallies::edge(t, group, i, 0, got, e.6);
     }
     t
 }
@@ -178,12 +151,12 @@ fn read_edge(e: ReadEdge, out: &mut [u32]) -> Outcome {
     run_read(&bytes[0..lent], e.0, &mut out[0..room])
 }
 
-pub fn read_edges(out: &mut [u32]) -> Tally {
+pub fn read_edges(group: &[u8], out: &mut [u32]) -> Tally {
     let mut t = tallies::NO_CASES;
     for i in 0..11 {
         let e = rows::read_edge(i);
         let got = read_edge(e, out);
-        t = tallies::compared(t, b"edges-read", b"row", row(i), got, tallies::refused(e.3));
+        t = tallies::edge(t, group, i, 0, got, e.3);
     }
     t
 }

@@ -59,10 +59,16 @@ fn case_of(i: usize, measure: usize) -> Case {
     }
 }
 
-// ---- a recording, against the second implementation
+// ---- what is done with a case
 
-// A file that is read, under a measure; any other word is no case.
-fn run_listed(
+// A recording against the second implementation; a recording against what is stated of it; how a file is read.
+pub enum Task {
+    Run(Kind),
+    Stated,
+    Read,
+}
+
+fn run_file(
     kind: Kind,
     group: &[u8],
     case: Case,
@@ -92,36 +98,6 @@ fn run_listed(
     )
 }
 
-fn run_argument(
-    kind: Kind,
-    group: &[u8],
-    case: Case,
-    words: &mut [u32],
-    area: &mut [u32],
-    t: Tally,
-) -> Tally {
-    let mut text = io::buffer();
-    let length = os::arg(case.number, &mut text);
-    run_listed(kind, group, case, &text[..length], words, area, t)
-}
-
-pub fn run_all(
-    kind: Kind,
-    group: &[u8],
-    measure: usize,
-    words: &mut [u32],
-    area: &mut [u32],
-) -> Tally {
-    let mut t = tallies::NO_CASES;
-    let end = os::arg_count();
-    for i in 1..end {
-        t = run_argument(kind, group, case_of(i, measure), words, area, t);
-    }
-    t
-}
-
-// ---- a recording, against what is stated of it
-
 fn stated(text: &[u8]) -> Outcome {
     Outcome {
         value: listed::field(text, 2),
@@ -131,7 +107,14 @@ fn stated(text: &[u8]) -> Outcome {
     }
 }
 
-fn stated_listed(i: usize, text: &[u8], words: &mut [u32], area: &mut [u32], t: Tally) -> Tally {
+fn stated_file(
+    group: &[u8],
+    case: Case,
+    text: &[u8],
+    words: &mut [u32],
+    area: &mut [u32],
+    t: Tally,
+) -> Tally {
     if listed::fields(text) != 6 {
         return t;
     }
@@ -139,35 +122,11 @@ fn stated_listed(i: usize, text: &[u8], words: &mut [u32], area: &mut [u32], t: 
     let end = listed::name_end(text);
     let f = load(&text[0..end], words);
     let got = comparing::whole_of(f.boards, f.picks, measure, words, area);
-    tallies::compared(
-        t,
-        b"by-hand-stated",
-        &text[0..end],
-        case_of(i, measure),
-        got,
-        stated(text),
-    )
+    tallies::compared(t, group, &text[0..end], case, got, stated(text))
 }
-
-fn stated_argument(i: usize, words: &mut [u32], area: &mut [u32], t: Tally) -> Tally {
-    let mut text = io::buffer();
-    let length = os::arg(i, &mut text);
-    stated_listed(i, &text[..length], words, area, t)
-}
-
-pub fn stated_all(words: &mut [u32], area: &mut [u32]) -> Tally {
-    let mut t = tallies::NO_CASES;
-    let end = os::arg_count();
-    for i in 1..end {
-        t = stated_argument(i, words, area, t);
-    }
-    t
-}
-
-// ---- how a file is read
 
 // A refused file leaves every word of the output.
-fn read_listed(i: usize, text: &[u8], words: &mut [u32], t: Tally) -> Tally {
+fn read_file(group: &[u8], case: Case, text: &[u8], words: &mut [u32], t: Tally) -> Tally {
     if listed::fields(text) != 2 {
         return t;
     }
@@ -175,20 +134,45 @@ fn read_listed(i: usize, text: &[u8], words: &mut [u32], t: Tally) -> Tally {
     let f = load(&text[0..end], words);
     let got = f.outcome;
     let wanted = tallies::refused(listed::field(text, 1));
-    tallies::compared(t, b"files-read", &text[0..end], case_of(i, 0), got, wanted)
+    tallies::compared(t, group, &text[0..end], case, got, wanted)
 }
 
-fn read_argument(i: usize, words: &mut [u32], t: Tally) -> Tally {
+// A word that is no case of the task leaves the tally.
+fn done(
+    task: Task,
+    group: &[u8],
+    case: Case,
+    text: &[u8],
+    words: &mut [u32],
+    area: &mut [u32],
+    t: Tally,
+) -> Tally {
+    match task {
+        Task::Run(kind) => run_file(kind, group, case, text, words, area, t),
+        Task::Stated => stated_file(group, case, text, words, area, t),
+        Task::Read => read_file(group, case, text, words, t),
+    }
+}
+
+// The number of a case is that of its argument.
+fn done_argument(
+    task: Task,
+    group: &[u8],
+    case: Case,
+    words: &mut [u32],
+    area: &mut [u32],
+    t: Tally,
+) -> Tally {
     let mut text = io::buffer();
-    let length = os::arg(i, &mut text);
-    read_listed(i, &text[..length], words, t)
+    let length = os::arg(case.number, &mut text);
+    done(task, group, case, &text[..length], words, area, t)
 }
 
-pub fn read_all(words: &mut [u32]) -> Tally {
+pub fn all(task: Task, group: &[u8], measure: usize, words: &mut [u32], area: &mut [u32]) -> Tally {
     let mut t = tallies::NO_CASES;
     let end = os::arg_count();
     for i in 1..end {
-        t = read_argument(i, words, t);
+        t = done_argument(task, group, case_of(i, measure), words, area, t);
     }
     t
 }

@@ -34,13 +34,7 @@ fn run_one(
     }
 }
 
-pub fn run_all(
-    kind: Kind,
-    group: &[u8],
-    measure: usize,
-    words: &mut [u32],
-    area: &mut [u32],
-) -> Tally {
+pub fn all(kind: Kind, group: &[u8], measure: usize, words: &mut [u32], area: &mut [u32]) -> Tally {
     let mut d = Drawn {
         tally: tallies::NO_CASES,
         state: 2463534242,

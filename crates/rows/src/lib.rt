@@ -1,6 +1,10 @@
 // Tables of edges: inputs of the calls, each with the refusal of it, 0 where there is none. Where two causes meet in a row, the
 // refusal is the first of them in 01's order.
 ghost use Prim.Native.Nat.{_<_};
+use model::Compositions;
+use model::Pick;
+use model::Tests;
+use place::Place;
 
 // ---- a whole run
 
@@ -374,4 +378,80 @@ pub fn place_edge(i: usize) -> PlaceEdge
     requires { ⌜ i < 42 ⌝ }
 {
     PLACE_EDGES[i]
+}
+
+const FRESH_PLACE: Place = Place {
+    boards: 3,
+    measure: 3,
+    limit: 4,
+    taken: Pick(0),
+    start: Pick(1),
+    boundary: Pick(0),
+    failed: false,
+    passed: false,
+    compositions: Compositions(0),
+    tests: Tests(0),
+};
+
+const WALKED_PLACE: Place = Place {
+    boards: 3,
+    measure: 3,
+    limit: 8,
+    taken: Pick(4),
+    start: Pick(3),
+    boundary: Pick(4),
+    failed: true,
+    passed: true,
+    compositions: Compositions(3),
+    tests: Tests(4),
+};
+
+// The head of the place: n, measure, limit; another field is left.
+fn altered_head(p: Place, field: usize, x: usize) -> Place {
+    match field {
+        0 => Place { boards: x, ..p },
+        1 => Place { measure: x, ..p },
+        2 => Place { limit: x, ..p },
+        _ => p,
+    }
+}
+
+// The window: m, s, b.
+fn altered_window(p: Place, field: usize, x: usize) -> Place {
+    let at = Pick(x);
+    match field {
+        3 => Place { taken: at, ..p },
+        4 => Place { start: at, ..p },
+        5 => Place { boundary: at, ..p },
+        _ => p,
+    }
+}
+
+// The marks and the counts.
+fn altered_rest(p: Place, field: usize, x: usize) -> Place {
+    let yes = x != 0;
+    let compositions = Compositions(x);
+    let tests = Tests(x);
+    match field {
+        6 => Place { failed: yes, ..p },
+        7 => Place { passed: yes, ..p },
+        8 => Place {
+            compositions: compositions,
+            ..p
+        },
+        9 => Place { tests: tests, ..p },
+        _ => p,
+    }
+}
+
+// The place with one field altered.
+pub fn altered(from: usize, field: usize, x: usize) -> Place {
+    let p = if from == FRESH {
+        FRESH_PLACE
+    } else {
+        WALKED_PLACE
+    };
+    let q = altered_head(p, field, x);
+    let r = altered_window(q, field, x);
+    altered_rest(r, field, x)
 }

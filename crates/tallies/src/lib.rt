@@ -1,4 +1,5 @@
 // Cases counted, and a line for each mismatch. Whatever a call answers is four numbers here, so that all are compared alike.
+ghost use Prim.Native.Nat.{_<_};
 use calls::Answer;
 use libc::STDOUT_FILENO;
 use reach::Tabled;
@@ -133,13 +134,13 @@ fn is_same(a: Outcome, b: Outcome) -> bool {
 // ---- lines
 
 fn print_text(text: &[u8]) {
-    io::write_all(STDOUT_FILENO, text);
     io::write_all(STDOUT_FILENO, b" ");
+    io::write_all(STDOUT_FILENO, text);
 }
 
 fn print_number(x: usize) {
-    io::print_decimal(STDOUT_FILENO, x as u64);
     io::write_all(STDOUT_FILENO, b" ");
+    io::print_decimal(STDOUT_FILENO, x as u64);
 }
 
 // A number, or a dash where it is 0.
@@ -160,7 +161,7 @@ fn print_outcome(o: Outcome) {
 
 // The group, the case's name, number, measure, and pick or row; then what was got and what was wanted.
 fn print_mismatch(group: &[u8], name: &[u8], case: Case, got: Outcome, wanted: Outcome) {
-    print_text(b"mismatch");
+    io::write_all(STDOUT_FILENO, b"mismatch");
     print_text(group);
     print_text(name);
     print_number(case.number);
@@ -175,10 +176,10 @@ fn print_mismatch(group: &[u8], name: &[u8], case: Case, got: Outcome, wanted: O
 
 // The line of a group; measure 0 is a group that is not for one measure.
 pub fn print_group(group: &[u8], measure: usize, t: Tally) {
-    print_text(group);
+    io::write_all(STDOUT_FILENO, group);
     print_cell(measure);
     print_number(t.cases as usize);
-    io::print_decimal(STDOUT_FILENO, t.mismatches as u64);
+    print_number(t.mismatches as usize);
     io::write_all(STDOUT_FILENO, b"\n");
 }
 
@@ -204,4 +205,16 @@ pub fn compared(
         cases: std::num::wrapping_add_u32(t.cases, 1),
         mismatches: std::num::wrapping_add_u32(t.mismatches, 1),
     }
+}
+
+// A row of a table of edges: row i is case i + 1.
+pub fn edge(t: Tally, group: &[u8], i: usize, measure: usize, got: Outcome, number: usize) -> Tally
+    requires { ⌜ i < 100 ⌝ }
+{
+    let case = Case {
+        number: i + 1,
+        measure: measure,
+        part: 0,
+    };
+    compared(t, group, b"row", case, got, refused(number))
 }

@@ -16,8 +16,8 @@ abbrev μ-loop : tie.MeasureT-loop
 loop-holds : tie.Need-loop-holds Inv-loop μ-loop
 loop-holds c = search needs
 
-run-all-requires : tie.Need-run-all-requires Inv-loop μ-loop
-run-all-requires c κs = search needs
+all-requires : tie.Need-all-requires Inv-loop μ-loop
+all-requires c κs = search needs
 
 print-group-requires : tie.Need-print-group-requires Inv-loop μ-loop
 print-group-requires c κs = search needs
@@ -47,7 +47,7 @@ print-generated-spec =
     Inv-loop
     μ-loop
     loop-holds
-    run-all-requires
+    all-requires
     print-group-requires
     add-measure
     loop-less

@@ -8,19 +8,16 @@ use Rattle.compare.proofs.print_picks.Statement.{statement}
 use Rattle.compare.proofs.print_picks.Tie as tie
 
 abbrev Inv-loop : tie.InvT-loop
-Inv-loop area₀ kept₀ measure₀ t5 area kept measure = (length area ≡ length area₀) × (length kept ≡ length kept₀)
+Inv-loop group area₀ kept₀ measure₀ area kept measure = (length area ≡ length area₀) × (length kept ≡ length kept₀)
 
 abbrev μ-loop : tie.MeasureT-loop
-μ-loop area₀ kept₀ measure₀ t5 area kept measure = 5 - measure
+μ-loop group area₀ kept₀ measure₀ area kept measure = 5 - measure
 
 loop-holds : tie.Need-loop-holds Inv-loop μ-loop
 loop-holds c = search needs
 
 pick-edges-requires : tie.Need-pick-edges-requires Inv-loop μ-loop
 pick-edges-requires c κs = search needs
-
-slice-aggregate-print-group : tie.Need-slice-aggregate-print-group Inv-loop μ-loop
-slice-aggregate-print-group c = search needs
 
 print-group-requires : tie.Need-print-group-requires Inv-loop μ-loop
 print-group-requires c κs = search needs
@@ -51,7 +48,6 @@ print-picks-spec =
     μ-loop
     loop-holds
     pick-edges-requires
-    slice-aggregate-print-group
     print-group-requires
     add-measure
     loop-less

@@ -9,10 +9,10 @@ use Rattle.edges.proofs.open_edges.Tie as tie
 use Rattle.rows.proofs.open_edge.Reads as open-edge-reads′
 
 abbrev Inv-loop : tie.InvT-loop
-Inv-loop list₀ area₀ t₀ i₀ t7 t8 list area t i = (length list ≡ length list₀) × (length area ≡ length area₀)
+Inv-loop group list₀ area₀ t₀ i₀ list area t i = (length list ≡ length list₀) × (length area ≡ length area₀)
 
 abbrev μ-loop : tie.MeasureT-loop
-μ-loop list₀ area₀ t₀ i₀ t7 t8 list area t i = 36 - i
+μ-loop group list₀ area₀ t₀ i₀ list area t i = 36 - i
 
 loop-holds : tie.Need-loop-holds Inv-loop μ-loop
 loop-holds c = search needs
@@ -23,20 +23,8 @@ open-edge-requires c κs = search needs
 open-edge-requires-2 : tie.Need-open-edge-requires-2 Inv-loop μ-loop
 open-edge-requires-2 c κs = search needs
 
-slice-aggregate-compared : tie.Need-slice-aggregate-compared Inv-loop μ-loop
-slice-aggregate-compared c = search needs
-
-slice-aggregate-compared-2 : tie.Need-slice-aggregate-compared-2 Inv-loop μ-loop
-slice-aggregate-compared-2 c = search needs
-
-row-requires : tie.Need-row-requires Inv-loop μ-loop
-row-requires c κs = search needs
-
-refused-requires : tie.Need-refused-requires Inv-loop μ-loop
-refused-requires c κs = search needs
-
-compared-requires : tie.Need-compared-requires Inv-loop μ-loop
-compared-requires c κs = search needs
+edge-requires : tie.Need-edge-requires Inv-loop μ-loop
+edge-requires c κs = search needs
 
 add-i : tie.Need-add-i Inv-loop μ-loop
 add-i c = search needs
@@ -65,11 +53,7 @@ open-edges-spec =
     loop-holds
     open-edge-requires
     open-edge-requires-2
-    slice-aggregate-compared
-    slice-aggregate-compared-2
-    row-requires
-    refused-requires
-    compared-requires
+    edge-requires
     add-i
     loop-less
     loop-again

@@ -9,10 +9,10 @@ use Rattle.edges.proofs.table_edges.Tie as tie
 use Rattle.rows.proofs.table_edge.Reads as table-edge-reads′
 
 abbrev Inv-loop : tie.InvT-loop
-Inv-loop words₀ out₀ t₀ i₀ t7 t8 words out t i = (length words ≡ length words₀) × (length out ≡ length out₀)
+Inv-loop group words₀ out₀ t₀ i₀ words out t i = (length words ≡ length words₀) × (length out ≡ length out₀)
 
 abbrev μ-loop : tie.MeasureT-loop
-μ-loop words₀ out₀ t₀ i₀ t7 t8 words out t i = 24 - i
+μ-loop group words₀ out₀ t₀ i₀ words out t i = 24 - i
 
 loop-holds : tie.Need-loop-holds Inv-loop μ-loop
 loop-holds c = search needs
@@ -23,20 +23,8 @@ table-edge-requires c κs = search needs
 table-edge-requires-2 : tie.Need-table-edge-requires-2 Inv-loop μ-loop
 table-edge-requires-2 c κs = search needs
 
-slice-aggregate-compared : tie.Need-slice-aggregate-compared Inv-loop μ-loop
-slice-aggregate-compared c = search needs
-
-slice-aggregate-compared-2 : tie.Need-slice-aggregate-compared-2 Inv-loop μ-loop
-slice-aggregate-compared-2 c = search needs
-
-row-requires : tie.Need-row-requires Inv-loop μ-loop
-row-requires c κs = search needs
-
-refused-requires : tie.Need-refused-requires Inv-loop μ-loop
-refused-requires c κs = search needs
-
-compared-requires : tie.Need-compared-requires Inv-loop μ-loop
-compared-requires c κs = search needs
+edge-requires : tie.Need-edge-requires Inv-loop μ-loop
+edge-requires c κs = search needs
 
 add-i : tie.Need-add-i Inv-loop μ-loop
 add-i c = search needs
@@ -65,11 +53,7 @@ table-edges-spec =
     loop-holds
     table-edge-requires
     table-edge-requires-2
-    slice-aggregate-compared
-    slice-aggregate-compared-2
-    row-requires
-    refused-requires
-    compared-requires
+    edge-requires
     add-i
     loop-less
     loop-again

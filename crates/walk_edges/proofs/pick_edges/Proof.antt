@@ -9,10 +9,10 @@ use Rattle.walk_edges.proofs.pick_edges.Tie as tie
 use Rattle.walk_edges.proofs.pick_edge.Reads as pick-edge-reads′
 
 abbrev Inv-loop : tie.InvT-loop
-Inv-loop measure area₀ kept₀ t₀ i₀ t8 t9 area kept t i = (length area ≡ length area₀) × (length kept ≡ length kept₀)
+Inv-loop group measure area₀ kept₀ t₀ i₀ area kept t i = (length area ≡ length area₀) × (length kept ≡ length kept₀)
 
 abbrev μ-loop : tie.MeasureT-loop
-μ-loop measure area₀ kept₀ t₀ i₀ t8 t9 area kept t i = 30 - i
+μ-loop group measure area₀ kept₀ t₀ i₀ area kept t i = 30 - i
 
 loop-holds : tie.Need-loop-holds Inv-loop μ-loop
 loop-holds c = search needs
@@ -23,20 +23,11 @@ pick-edge-requires c κs = search needs
 pick-edge-requires-2 : tie.Need-pick-edge-requires-2 Inv-loop μ-loop
 pick-edge-requires-2 c κs = search needs
 
-slice-aggregate-compared : tie.Need-slice-aggregate-compared Inv-loop μ-loop
-slice-aggregate-compared c = search needs
-
-slice-aggregate-compared-2 : tie.Need-slice-aggregate-compared-2 Inv-loop μ-loop
-slice-aggregate-compared-2 c = search needs
-
-row-requires : tie.Need-row-requires Inv-loop μ-loop
-row-requires c κs = search needs
-
 pick-refusal-requires : tie.Need-pick-refusal-requires Inv-loop μ-loop
 pick-refusal-requires c κs = search needs
 
-compared-requires : tie.Need-compared-requires Inv-loop μ-loop
-compared-requires c κs = search needs
+edge-requires : tie.Need-edge-requires Inv-loop μ-loop
+edge-requires c κs = search needs
 
 add-i : tie.Need-add-i Inv-loop μ-loop
 add-i c = search needs
@@ -65,11 +56,8 @@ pick-edges-spec =
     loop-holds
     pick-edge-requires
     pick-edge-requires-2
-    slice-aggregate-compared
-    slice-aggregate-compared-2
-    row-requires
     pick-refusal-requires
-    compared-requires
+    edge-requires
     add-i
     loop-less
     loop-again

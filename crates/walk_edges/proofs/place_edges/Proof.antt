@@ -8,10 +8,10 @@ use Rattle.walk_edges.proofs.place_edges.Statement.{statement}
 use Rattle.walk_edges.proofs.place_edges.Tie as tie
 
 abbrev Inv-loop : tie.InvT-loop
-Inv-loop area₀ kept₀ t₀ i₀ area kept t i = (length area ≡ length area₀) × (length kept ≡ length kept₀)
+Inv-loop group area₀ kept₀ t₀ i₀ area kept t i = (length area ≡ length area₀) × (length kept ≡ length kept₀)
 
 abbrev μ-loop : tie.MeasureT-loop
-μ-loop area₀ kept₀ t₀ i₀ area kept t i = 42 - i
+μ-loop group area₀ kept₀ t₀ i₀ area kept t i = 42 - i
 
 loop-holds : tie.Need-loop-holds Inv-loop μ-loop
 loop-holds c = search needs

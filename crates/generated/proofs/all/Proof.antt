@@ -1,29 +1,23 @@
--- `files::run_all` is safe and ends.
+-- `generated::all` is safe and ends.
 -- Assumes nothing.
 use mathlib.Core.Path.{_≡_}
 use lib.ListN.{length}
 use Prim.Native.Nat.{_-_}
 use borrow.Author.Needs.{needs}
-use Rattle.files.proofs.run_all.Statement.{statement}
-use Rattle.files.proofs.run_all.Tie as tie
+use Rattle.generated.proofs.all.Statement.{statement}
+use Rattle.generated.proofs.all.Tie as tie
 
 abbrev Inv-loop : tie.InvT-loop
-Inv-loop kind group measure words₀ area₀ t₀ end i₀ words area t i = (length words ≡ length words₀) × (length area ≡ length area₀)
+Inv-loop kind group measure words₀ area₀ d₀ i₀ words area d i = (length words ≡ length words₀) × (length area ≡ length area₀)
 
 abbrev μ-loop : tie.MeasureT-loop
-μ-loop kind group measure words₀ area₀ t₀ end i₀ words area t i = end - i
-
-arg-count-requires : tie.Need-arg-count-requires Inv-loop μ-loop
-arg-count-requires c κs = search needs
+μ-loop kind group measure words₀ area₀ d₀ i₀ words area d i = 124 - i
 
 loop-holds : tie.Need-loop-holds Inv-loop μ-loop
 loop-holds c = search needs
 
-case-of-requires : tie.Need-case-of-requires Inv-loop μ-loop
-case-of-requires c κs = search needs
-
-run-argument-requires : tie.Need-run-argument-requires Inv-loop μ-loop
-run-argument-requires c κs = search needs
+run-one-requires : tie.Need-run-one-requires Inv-loop μ-loop
+run-one-requires c κs = search needs
 
 add-i : tie.Need-add-i Inv-loop μ-loop
 add-i c = search needs
@@ -43,16 +37,14 @@ same-length-2 c = search needs
 returns : tie.Need-returns Inv-loop μ-loop
 returns c = search needs
 
-pub run-all-spec : {M : Type 1} → statement M
-run-all-spec =
+pub all-spec : {M : Type 1} → statement M
+all-spec =
     tie.close
     (tie.spec
     Inv-loop
     μ-loop
-    arg-count-requires
     loop-holds
-    case-of-requires
-    run-argument-requires
+    run-one-requires
     add-i
     loop-less
     loop-again

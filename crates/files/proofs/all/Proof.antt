@@ -1,17 +1,17 @@
--- `files::read_all` is safe and ends.
+-- `files::all` is safe and ends.
 -- Assumes nothing.
 use mathlib.Core.Path.{_≡_}
 use lib.ListN.{length}
 use Prim.Native.Nat.{_-_}
 use borrow.Author.Needs.{needs}
-use Rattle.files.proofs.read_all.Statement.{statement}
-use Rattle.files.proofs.read_all.Tie as tie
+use Rattle.files.proofs.all.Statement.{statement}
+use Rattle.files.proofs.all.Tie as tie
 
 abbrev Inv-loop : tie.InvT-loop
-Inv-loop words₀ t₀ end i₀ words t i = length words ≡ length words₀
+Inv-loop task group measure words₀ area₀ t₀ end i₀ words area t i = (length words ≡ length words₀) × (length area ≡ length area₀)
 
 abbrev μ-loop : tie.MeasureT-loop
-μ-loop words₀ t₀ end i₀ words t i = end - i
+μ-loop task group measure words₀ area₀ t₀ end i₀ words area t i = end - i
 
 arg-count-requires : tie.Need-arg-count-requires Inv-loop μ-loop
 arg-count-requires c κs = search needs
@@ -19,8 +19,11 @@ arg-count-requires c κs = search needs
 loop-holds : tie.Need-loop-holds Inv-loop μ-loop
 loop-holds c = search needs
 
-read-argument-requires : tie.Need-read-argument-requires Inv-loop μ-loop
-read-argument-requires c κs = search needs
+case-of-requires : tie.Need-case-of-requires Inv-loop μ-loop
+case-of-requires c κs = search needs
+
+done-argument-requires : tie.Need-done-argument-requires Inv-loop μ-loop
+done-argument-requires c κs = search needs
 
 add-i : tie.Need-add-i Inv-loop μ-loop
 add-i c = search needs
@@ -34,20 +37,25 @@ loop-again c = search needs
 same-length : tie.Need-same-length Inv-loop μ-loop
 same-length c = search needs
 
+same-length-2 : tie.Need-same-length-2 Inv-loop μ-loop
+same-length-2 c = search needs
+
 returns : tie.Need-returns Inv-loop μ-loop
 returns c = search needs
 
-pub read-all-spec : {M : Type 1} → statement M
-read-all-spec =
+pub all-spec : {M : Type 1} → statement M
+all-spec =
     tie.close
     (tie.spec
     Inv-loop
     μ-loop
     arg-count-requires
     loop-holds
-    read-argument-requires
+    case-of-requires
+    done-argument-requires
     add-i
     loop-less
     loop-again
     same-length
+    same-length-2
     returns)
