@@ -17,8 +17,9 @@ use Rattle.lists.proofs.Tab.{length-tab, getD-tab, tab-ext, tab-zero}
 use Rattle.times.specs.Times.{cell, rows, choose, sooner, later, after, apart, arriveBy, arrival, arrivals, departBy, departure, departures}
 use Rattle.times.proofs.Rows.{row-le, part-length, Rowed}
 use Rattle.times.proofs.Cells.{length-rows, cell-rows}
-use Rattle.folds.specs.Folds.{each, better, betterIf, crossBy, crossed, someOf, setOf, gather, foldOf, joinedRow, Shared}
-use Rattle.folds.proofs.Sets.{row-cell, some-none, bit-set}
+use Rattle.sets.specs.Marks.{someOf, setOf}
+use Rattle.folds.specs.Folds.{each, better, betterIf, crossBy, crossed, gather, foldOf, joinedRow, Shared}
+use Rattle.sets.proofs.Bits.{row-cell, some-none, bit-set}
 use Rattle.folds.proofs.Better.{better-none, better-assoc, better-comm, better-self}
 
 -- ---- the loops

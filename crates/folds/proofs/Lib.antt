@@ -1,4 +1,3 @@
--- Laws of the better time, of sets of boards and of folds over them.
+-- Laws of the better time and of folds.
 pub mod Better
-pub mod Sets
 pub mod Gathered

@@ -1,11 +1,9 @@
 -- The composition of one half of two tables of times, as it is defined and by folds over sets of boards. `late` is for departures, where the
 -- later time is the better one; for arrivals it is the earlier one.
 use mathlib.Core.Path.{_≡_}
-use mathlib.Core.Bool.{Bool, true, false, not}
+use mathlib.Core.Bool.{Bool, true, false}
 use mathlib.Core.List.{List, _++_}
-use Prim.Native.Nat.{ℕ, zero, suc, _+_, _-_, _*_, _^_, _≤_, _<_}
-use lib.Bits.{bitAnd, bitOr}
-use lib.Dec.{eqb}
+use Prim.Native.Nat.{ℕ, zero, suc, _+_, _-_, _*_, _≤_, _<_}
 use lib.ListN.{length, getD, take, drop}
 use Rattle.model.specs.Recording.{bit}
 use Rattle.lists.specs.Tab.{kept}
@@ -40,30 +38,6 @@ module _ (late : Bool) (n : ℕ) (s t : List ℕ) where
 
   unfoldable pub crossed : ℕ → ℕ → ℕ
   crossed u v = apart u v (crossBy n u v)
-
--- ---- sets of boards, as words
-
--- bit v, where x is a time
-unfoldable pub markOf : ℕ → ℕ → ℕ
-markOf x v = kept (not (eqb x 0)) (2 ^ v)
-
--- 0 where the first k times are none
-unfoldable pub anyOf : (ℕ → ℕ) → ℕ → ℕ
-anyOf f zero = 0
-anyOf f (suc k) = bitOr (anyOf f k) (f k)
-
--- which of the first k times are some
-unfoldable pub marks : (ℕ → ℕ) → ℕ → ℕ
-marks f zero = 0
-marks f (suc k) = bitOr (marks f k) (markOf (f k) k)
-
--- which rows hold a time
-unfoldable pub someOf : ℕ → List ℕ → ℕ
-someOf n t = marks (λ w. anyOf (cell n t w) n) n
-
--- the rows that row u takes in, where f v is its time at v: of the boards it reaches and of u itself, but for rows without a time
-unfoldable pub setOf : (ℕ → ℕ) → ℕ → ℕ → ℕ → ℕ
-setOf f n some u = bitAnd (bitOr (marks f n) (2 ^ u)) some
 
 -- ---- folds
 

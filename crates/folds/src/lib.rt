@@ -7,7 +7,7 @@ ghost use Prim.Native.Nat.{_+_, _*_, _≤_, _<_};
 ghost use lib.ListN.{length, getD};
 ghost use Rattle.lists.specs.Tab.{tab, zeros, padded};
 ghost use Rattle.times.specs.Times.{cell, rows, sooner, later, arrivals, departures, composeTimes};
-ghost use Rattle.folds.specs.Folds.{each, better, betterIf, rowAt, putRow, gather, foldOf, joinedRow, markOf, anyOf, marks, someOf, setOf, crossed, Shared};
+ghost use Rattle.folds.specs.Folds.{each, better, betterIf, rowAt, putRow, gather, foldOf, joinedRow, crossed, Shared};
 use model::Board;
 
 // ---- a row taken in
@@ -69,88 +69,6 @@ fn fold_if(out: &mut [u32], row: &[u32], n: usize, late: bool, on: bool)
     }
 }
 
-// ---- sets of boards, as words
-
-// Bit b, where x is a time.
-fn mark_of(x: u32, b: Board) -> u32
-    requires { ⌜ b .0 < 32 ⌝ }
-    ensures { λ r. ⌜ r ≡ markOf x (b .0) ⌝ }
-{
-    let v = b.0;
-    if x == 0 { 0 } else { 1u32 << v }
-}
-
-// Not 0 where the row holds a time.
-fn row_any(row: &[u32], n: usize) -> u32
-    requires { ⌜ n ≤ length (now row) ⌝ }
-    ensures { λ r. ⌜ r ≡ anyOf (λ v. getD (now (row .entry)) v 0) n ⌝ }
-{
-    let mut any = 0u32;
-    for v in 0..n {
-        any = any | row[v];
-    }
-    any
-}
-
-// The boards at which the row has a time.
-fn row_marks(row: &[u32], n: usize) -> u32
-    requires { ⌜ (n ≤ 32) × (n ≤ length (now row)) ⌝ }
-    ensures { λ r. ⌜ r ≡ marks (λ v. getD (now (row .entry)) v 0) n ⌝ }
-{
-    let mut set = 0u32;
-    for v in 0..n {
-        set = set | mark_of(row[v], Board(v));
-    }
-    set
-}
-
-// The boards whose row holds a time.
-fn some_rows(half: &[u32], n: usize) -> u32
-    requires { ⌜ (n ≤ 32) × (n * n ≤ length (now half)) ⌝ }
-    ensures { λ r. ⌜ r ≡ someOf n (now (half .entry)) ⌝ }
-{
-    let mut set = 0u32;
-    for w in 0..n {
-        let at = w * n;
-        set = set | mark_of(row_any(&half[at..at + n], n), Board(w));
-    }
-    set
-}
-
-// What a row takes from the later table: the rows of the boards that it reaches, and of the board itself, but for those without a time.
-fn set_of(row: &[u32], n: usize, some: u32, own: Board) -> u32
-    requires { ⌜ (n ≤ 32) × ((own .0 < 32) × (n ≤ length (now row))) ⌝ }
-    ensures { λ r. ⌜ r ≡ setOf (λ v. getD (now (row .entry)) v 0) n some (own .0) ⌝ }
-{
-    let u = own.0;
-    (row_marks(row, n) | (1u32 << u)) & some
-}
-
-// The sets of all rows.
-fn write_sets(sets: &mut [u32], half: &[u32], n: usize, some: u32)
-    requires { ⌜ (n ≤ 32) × ((n ≡ length (now sets)) × (n * n ≤ length (now half))) ⌝ }
-    ensures { λ _. ⌜ now (sets .exit) ≡ tab (λ u. setOf (cell n (now (half .entry)) u) n some u) n ⌝ }
-{
-    for u in 0..n {
-        let at = u * n;
-        sets[u] = set_of(&half[at..at + n], n, some, Board(u));
-    }
-}
-
-// The first row with the same set as row u.
-fn first_same(sets: &[u32], u: usize) -> usize
-    requires { ⌜ u < length (now sets) ⌝ }
-    ensures { λ r. ⌜ (r ≤ u) × (getD (now (sets .entry)) r 0 ≡ getD (now (sets .entry)) u 0) ⌝ }
-{
-    let set = sets[u];
-    for k in 0..u {
-        if sets[k] == set {
-            return k;
-        }
-    }
-    u
-}
-
 // ---- folds
 
 // Takes in the rows of the boards of a set.
@@ -204,7 +122,7 @@ fn write_fold(folds: &mut [u32], later: &[u32], sets: &[u32], n: usize, own: Boa
     ensures { λ _. ⌜ now (folds .exit) ≡ putRow n (now (folds .entry)) (own .0) (tab (foldOf late n (now (later .entry)) (now (sets .entry)) (own .0)) n) ⌝ }
 {
     let u = own.0;
-    let k = first_same(sets, u);
+    let k = sets::first_same(sets, u);
     if k < u {
         share(folds, n, own, Board(k));
         return;
@@ -295,8 +213,8 @@ fn cross_in(
     requires { ⌜ (n ≤ 32) × ((n * n ≡ length (now out)) × ((n * n ≤ length (now earlier)) × ((n * n ≤ length (now later)) × ((n ≡ length (now sets)) × (n * n ≡ length (now folds)))))) ⌝ }
     ensures { λ _. ⌜ now (out .exit) ≡ rows n (crossed late n (now (earlier .entry)) (now (later .entry))) n ⌝ }
 {
-    let some = some_rows(later, n);
-    write_sets(sets, earlier, n, some);
+    let some = sets::some_rows(later, n);
+    sets::write(sets, earlier, n, some);
     fold_rows(folds, later, sets, n, late);
     cross_rows(out, earlier, folds, n, late);
 }

@@ -9,8 +9,8 @@ use Rattle.folds.proofs.cross_in.Tie as tie
 some-rows-requires : tie.Need-some-rows-requires
 some-rows-requires c κs = search needs
 
-write-sets-requires : tie.Need-write-sets-requires
-write-sets-requires c κs = search needs
+write-requires : tie.Need-write-requires
+write-requires c κs = search needs
 
 fold-rows-requires : tie.Need-fold-rows-requires
 fold-rows-requires c κs = search needs
@@ -32,14 +32,14 @@ returns c =
     let c7 = c .before .before .before .before .before .before .before in
     let c12 = c7 .before .before .before .before .before in
     let c20 = c12 .before .before .before .before .before .before .before .before in
-    c .before .before .cross-rows .ensures ∙ crossed-rows (c20 .args .late) (c20 .args .n) (c20 .args .earlier .now) (c20 .args .later .now) _ _ (c12 .write-sets .ensures ∙ simp (c12 .before .before .some-rows .ensures)) (c7 .fold-rows .ensures)
+    c .before .before .cross-rows .ensures ∙ crossed-rows (c20 .args .late) (c20 .args .n) (c20 .args .earlier .now) (c20 .args .later .now) _ _ (c12 .write .ensures ∙ simp (c12 .before .before .some-rows .ensures)) (c7 .fold-rows .ensures)
 
 pub cross-in-spec : {M : Type 1} → statement M
 cross-in-spec =
     tie.close
     (tie.spec
     some-rows-requires
-    write-sets-requires
+    write-requires
     fold-rows-requires
     cross-rows-requires
     same-length

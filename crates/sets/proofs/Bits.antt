@@ -16,7 +16,7 @@ use lib.ListN.{getD, take, drop}
 use lib.Seq.{getD-take, getD-drop}
 use Rattle.model.specs.Recording.{bit}
 use Rattle.times.specs.Times.{cell}
-use Rattle.folds.specs.Folds.{markOf, anyOf, marks, someOf, setOf}
+use Rattle.sets.specs.Marks.{markOf, anyOf, marks, someOf, setOf}
 
 -- ---- the same of a lent row as of the table
 

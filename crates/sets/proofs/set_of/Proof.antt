@@ -1,11 +1,11 @@
--- `folds::set_of` meets its contract. The shift `1u32 << u` is `(1 * 2 ^ u) % 2 ^ 32`: nothing is shifted out.
+-- `sets::set_of` meets its contract. The shift `1u32 << u` is `(1 * 2 ^ u) % 2 ^ 32`: nothing is shifted out.
 -- Assumes nothing.
 use lib.Pow.{pow-lt}
 use native.Mathlib.Nat.{one-mul, mod-eq-of-lt}
-use Rattle.folds.specs.Folds.{setOf}
+use Rattle.sets.specs.Marks.{setOf}
 use borrow.Author.Needs.{needs}
-use Rattle.folds.proofs.set_of.Statement.{statement}
-use Rattle.folds.proofs.set_of.Tie as tie
+use Rattle.sets.proofs.set_of.Statement.{statement}
+use Rattle.sets.proofs.set_of.Tie as tie
 
 row-marks-requires : tie.Need-row-marks-requires
 row-marks-requires c κs = search needs

@@ -1,11 +1,11 @@
--- `folds::first_same` meets its contract.
+-- `sets::first_same` meets its contract.
 -- Assumes nothing.
 use Prim.Native.Nat.{_-_, _≤_}
 use mathlib.Core.Path.{_≡_}
 use lib.ListN.{getD}
 use borrow.Author.Needs.{needs}
-use Rattle.folds.proofs.first_same.Statement.{statement}
-use Rattle.folds.proofs.first_same.Tie as tie
+use Rattle.sets.proofs.first_same.Statement.{statement}
+use Rattle.sets.proofs.first_same.Tie as tie
 
 abbrev Inv-loop : tie.InvT-loop
 Inv-loop sets u set k₀ k = (k ≤ u) × (set ≡ getD sets u 0)

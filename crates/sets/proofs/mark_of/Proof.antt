@@ -1,12 +1,12 @@
--- `folds::mark_of` meets its contract. The shift `1u32 << v` is `(1 * 2 ^ v) % 2 ^ 32`: nothing is shifted out.
+-- `sets::mark_of` meets its contract. The shift `1u32 << v` is `(1 * 2 ^ v) % 2 ^ 32`: nothing is shifted out.
 -- Assumes nothing.
 use lib.Pow.{pow-lt}
 use native.Mathlib.Nat.{one-mul, mod-eq-of-lt}
 use borrow.Author.Tests.{eq-eqb, ne-eqb}
-use Rattle.folds.specs.Folds.{markOf}
+use Rattle.sets.specs.Marks.{markOf}
 use borrow.Author.Needs.{needs}
-use Rattle.folds.proofs.mark_of.Statement.{statement}
-use Rattle.folds.proofs.mark_of.Tie as tie
+use Rattle.sets.proofs.mark_of.Statement.{statement}
+use Rattle.sets.proofs.mark_of.Tie as tie
 
 cast-result : tie.Need-cast-result
 cast-result c = search needs

@@ -1,14 +1,14 @@
--- `folds::row_any` meets its contract. The invariant is the definition at v.
+-- `sets::row_any` meets its contract. The invariant is the definition at v.
 -- Assumes nothing.
 use mathlib.Core.Path.{_≡_}
 use Prim.Native.Nat.{_-_, _≤_}
 use native.Mathlib.Omega.{arith}
 use native.Mathlib.Numerals.{add-one}
 use lib.ListN.{getD}
-use Rattle.folds.specs.Folds.{anyOf}
+use Rattle.sets.specs.Marks.{anyOf}
 use borrow.Author.Needs.{needs}
-use Rattle.folds.proofs.row_any.Statement.{statement}
-use Rattle.folds.proofs.row_any.Tie as tie
+use Rattle.sets.proofs.row_any.Statement.{statement}
+use Rattle.sets.proofs.row_any.Tie as tie
 
 abbrev Inv-loop : tie.InvT-loop
 Inv-loop row n any₀ v₀ any v = (v ≤ n) × (any ≡ anyOf (λ i. getD row i 0) v)

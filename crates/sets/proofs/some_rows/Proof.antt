@@ -1,4 +1,4 @@
--- `folds::some_rows` meets its contract. The invariant is the definition at w; a lent row is `any-lent`.
+-- `sets::some_rows` meets its contract. The invariant is the definition at w; a lent row is `any-lent`.
 -- Assumes nothing.
 use mathlib.Core.Path.{_≡_, ap, ap₂, _∙_}
 use Prim.Native.Nat.{ℕ, _-_, _≤_}
@@ -8,11 +8,11 @@ use native.Mathlib.Omega.{arith}
 use native.Mathlib.Numerals.{add-one}
 use Rattle.times.specs.Times.{cell}
 use Rattle.times.proofs.Rows.{row-le, part-length}
-use Rattle.folds.specs.Folds.{markOf, anyOf, marks, someOf}
-use Rattle.folds.proofs.Sets.{any-lent}
+use Rattle.sets.specs.Marks.{markOf, anyOf, marks, someOf}
+use Rattle.sets.proofs.Bits.{any-lent}
 use borrow.Author.Needs.{needs}
-use Rattle.folds.proofs.some_rows.Statement.{statement}
-use Rattle.folds.proofs.some_rows.Tie as tie
+use Rattle.sets.proofs.some_rows.Statement.{statement}
+use Rattle.sets.proofs.some_rows.Tie as tie
 
 abbrev Inv-loop : tie.InvT-loop
 Inv-loop half n set₀ w₀ set w = (w ≤ n) × (set ≡ marks (λ i. anyOf (cell n half i) n) w)

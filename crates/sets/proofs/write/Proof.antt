@@ -1,4 +1,4 @@
--- `folds::write_sets` meets its contract. The invariant is `Made`; a lent row is `set-lent`.
+-- `sets::write` meets its contract. The invariant is `Made`; a lent row is `set-lent`.
 -- Assumes nothing.
 use mathlib.Core.Path.{_∙_}
 use Prim.Native.Nat.{_-_}
@@ -7,11 +7,11 @@ use native.Mathlib.Omega.{arith}
 use Rattle.lists.proofs.Tab.{Made, made-start, made-turn, made-all}
 use Rattle.times.specs.Times.{cell}
 use Rattle.times.proofs.Rows.{row-le, part-length}
-use Rattle.folds.specs.Folds.{setOf}
-use Rattle.folds.proofs.Sets.{set-lent}
+use Rattle.sets.specs.Marks.{setOf}
+use Rattle.sets.proofs.Bits.{set-lent}
 use borrow.Author.Needs.{needs}
-use Rattle.folds.proofs.write_sets.Statement.{statement}
-use Rattle.folds.proofs.write_sets.Tie as tie
+use Rattle.sets.proofs.write.Statement.{statement}
+use Rattle.sets.proofs.write.Tie as tie
 
 abbrev Inv-loop : tie.InvT-loop
 Inv-loop sets₀ half n some u₀ sets u = Made (λ i. setOf (cell n half i) n some i) n sets₀ sets u
@@ -70,8 +70,8 @@ same-length c = search needs
 returns : tie.Need-returns Inv-loop μ-loop
 returns c = made-all (c .before .loop .inv) (c .loop-test .left)
 
-pub write-sets-spec : {M : Type 1} → statement M
-write-sets-spec =
+pub write-spec : {M : Type 1} → statement M
+write-spec =
     tie.close
     (tie.spec
     Inv-loop

@@ -1,0 +1,2 @@
+-- Definitions that the contracts of `sets` cite.
+pub mod Marks
