@@ -6,6 +6,7 @@ use rows::OpenEdge;
 use rows::ReadEdge;
 use rows::TableEdge;
 use rows::WholeEdge;
+use tallies::Case;
 use tallies::Outcome;
 use tallies::Tally;
 
@@ -35,14 +36,14 @@ fn whole_edge(e: WholeEdge, words: &mut [u32], area: &mut [u32]) -> Outcome {
     run_whole(e.0, e.1, &words[0..lent], &mut area[0..room])
 }
 
-pub fn whole_edges(group: &[u8], words: &mut [u32], area: &mut [u32]) -> Tally {
+pub fn print_whole_edges(group: &[u8], words: &mut [u32], area: &mut [u32]) {
     let mut t = tallies::NO_CASES;
     for i in 0..40 {
         let e = rows::whole_edge(i);
         let got = whole_edge(e, words, area);
         t = tallies::edge(t, group, i, 0, got, e.6);
     }
-    t
+    tallies::print_group(group, 0, t);
 }
 
 // ---- the table of reach
@@ -67,14 +68,42 @@ fn table_edge(e: TableEdge, words: &mut [u32], out: &mut [u32]) -> Outcome {
     run_table(e.0, &words[0..lent], &mut out[0..room])
 }
 
-pub fn table_edges(group: &[u8], words: &mut [u32], out: &mut [u32]) -> Tally {
+pub fn print_table_edges(group: &[u8], words: &mut [u32], out: &mut [u32]) {
     let mut t = tallies::NO_CASES;
     for i in 0..24 {
         let e = rows::table_edge(i);
         let got = table_edge(e, words, out);
         t = tallies::edge(t, group, i, 0, got, e.5);
     }
-    t
+    tallies::print_group(group, 0, t);
+}
+
+// Words 2 and 1, where nothing refused it.
+fn words_of_a(group: &[u8], o: Outcome, first: u32, second: u32) -> Tally {
+    let case = Case {
+        number: 1,
+        measure: 0,
+        part: 0,
+    };
+    let t = tallies::edge(tallies::NO_CASES, group, 0, 0, o, 0);
+    let u = tallies::compared(t, group, b"A", case, tallies::word(first), tallies::word(2));
+    let next = tallies::at_part(case, 1);
+    tallies::compared(
+        u,
+        group,
+        b"A",
+        next,
+        tallies::word(second),
+        tallies::word(1),
+    )
+}
+
+// The table of reach of A, as 01 states it.
+pub fn print_table_of_a(group: &[u8], out: &mut [u32]) {
+    let a = [2u32, 0, 0, 1, 2, 0, 0, 1];
+    let o = tallies::tabled(reach::table(2, &a, out));
+    let t = words_of_a(group, o, cases::word_at(out, 0), cases::word_at(out, 1));
+    tallies::print_group(group, 0, t);
 }
 
 // ---- opening
@@ -113,14 +142,14 @@ fn open_edge(e: OpenEdge, list: &mut [u32], area: &mut [u32]) -> Outcome {
     run_open(e.0, e.1, e.2, &list[0..lent], &mut area[0..room])
 }
 
-pub fn open_edges(group: &[u8], list: &mut [u32], area: &mut [u32]) -> Tally {
+pub fn print_open_edges(group: &[u8], list: &mut [u32], area: &mut [u32]) {
     let mut t = tallies::NO_CASES;
     for i in 0..36 {
         let e = rows::open_edge(i);
         let got = open_edge(e, list, area);
         t = tallies::edge(t, group, i, 0, got, e.6);
     }
-    t
+    tallies::print_group(group, 0, t);
 }
 
 // ---- reading a file
@@ -151,12 +180,12 @@ fn read_edge(e: ReadEdge, out: &mut [u32]) -> Outcome {
     run_read(&bytes[0..lent], e.0, &mut out[0..room])
 }
 
-pub fn read_edges(group: &[u8], out: &mut [u32]) -> Tally {
+pub fn print_read_edges(group: &[u8], out: &mut [u32]) {
     let mut t = tallies::NO_CASES;
     for i in 0..11 {
         let e = rows::read_edge(i);
         let got = read_edge(e, out);
         t = tallies::edge(t, group, i, 0, got, e.3);
     }
-    t
+    tallies::print_group(group, 0, t);
 }

@@ -168,11 +168,25 @@ fn done_argument(
     done(task, group, case, &text[..length], words, area, t)
 }
 
-pub fn all(task: Task, group: &[u8], measure: usize, words: &mut [u32], area: &mut [u32]) -> Tally {
+fn all(task: Task, group: &[u8], measure: usize, words: &mut [u32], area: &mut [u32]) -> Tally {
     let mut t = tallies::NO_CASES;
     let end = os::arg_count();
     for i in 1..end {
         t = done_argument(task, group, case_of(i, measure), words, area, t);
     }
     t
+}
+
+// A line for each measure.
+pub fn print_measures(group: &[u8], kind: Kind, words: &mut [u32], area: &mut [u32]) {
+    for measure in 1..5 {
+        let t = all(Task::Run(kind), group, measure, words, area);
+        tallies::print_group(group, measure, t);
+    }
+}
+
+// One line, for what is not under a measure.
+pub fn print_all(group: &[u8], task: Task, words: &mut [u32], area: &mut [u32]) {
+    let t = all(task, group, 0, words, area);
+    tallies::print_group(group, 0, t);
 }

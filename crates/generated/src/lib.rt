@@ -34,7 +34,7 @@ fn run_one(
     }
 }
 
-pub fn all(kind: Kind, group: &[u8], measure: usize, words: &mut [u32], area: &mut [u32]) -> Tally {
+fn all(kind: Kind, group: &[u8], measure: usize, words: &mut [u32], area: &mut [u32]) -> Tally {
     let mut d = Drawn {
         tally: tallies::NO_CASES,
         state: 2463534242,
@@ -43,4 +43,17 @@ pub fn all(kind: Kind, group: &[u8], measure: usize, words: &mut [u32], area: &m
         d = run_one(kind, group, measure, i, words, area, d);
     }
     d.tally
+}
+
+// A line for each measure.
+pub fn print_measures(group: &[u8], kind: Kind, words: &mut [u32], area: &mut [u32]) {
+    for measure in 1..5 {
+        let t = all(kind, group, measure, words, area);
+        tallies::print_group(group, measure, t);
+    }
+}
+
+pub fn print_tables(group: &[u8], words: &mut [u32], area: &mut [u32]) {
+    let t = all(Kind::Table, group, 0, words, area);
+    tallies::print_group(group, 0, t);
 }

@@ -99,7 +99,7 @@ fn pick_refusal(e: PickEdge, measure: usize) -> usize {
     e.6
 }
 
-pub fn pick_edges(group: &[u8], measure: usize, area: &mut [u32], kept: &mut [u32]) -> Tally {
+fn pick_edges(group: &[u8], measure: usize, area: &mut [u32], kept: &mut [u32]) -> Tally {
     let mut t = tallies::NO_CASES;
     for i in 0..30 {
         let e = rows::pick_edge(i);
@@ -107,6 +107,14 @@ pub fn pick_edges(group: &[u8], measure: usize, area: &mut [u32], kept: &mut [u3
         t = tallies::edge(t, group, i, measure, got, pick_refusal(e, measure));
     }
     t
+}
+
+// A line for each measure.
+pub fn print_pick_edges(group: &[u8], area: &mut [u32], kept: &mut [u32]) {
+    for measure in 1..5 {
+        let t = pick_edges(group, measure, area, kept);
+        tallies::print_group(group, measure, t);
+    }
 }
 
 // ---- an altered place
@@ -132,7 +140,7 @@ fn place_cases(group: &[u8], i: usize, e: PlaceEdge, p: Place, got: Outcome, t: 
     tallies::edge(sum, group, i, 0, run_length(p), e.5)
 }
 
-pub fn place_edges(group: &[u8], area: &mut [u32], kept: &mut [u32]) -> Tally {
+pub fn print_place_edges(group: &[u8], area: &mut [u32], kept: &mut [u32]) {
     let mut t = tallies::NO_CASES;
     for i in 0..42 {
         let e = rows::place_edge(i);
@@ -140,7 +148,7 @@ pub fn place_edges(group: &[u8], area: &mut [u32], kept: &mut [u32]) -> Tally {
         let got = altered_pick(p, e.3, area, kept);
         t = place_cases(group, i, e, p, got, t);
     }
-    t
+    tallies::print_group(group, 0, t);
 }
 
 // ---- the limit
@@ -158,9 +166,10 @@ fn limit_cases(group: &[u8], fresh: Place, full: Place, beyond: Outcome) -> Tall
     tallies::compared(u, group, b"full", case, length, tallies::length(1, 0, 4096))
 }
 
-pub fn limit_edges(group: &[u8], area: &mut [u32], kept: &mut [u32]) -> Tally {
+pub fn print_limit_edges(group: &[u8], area: &mut [u32], kept: &mut [u32]) {
     let both = [2u32, 1];
     let p = walking::opened(2, 3, 4096, &both, area);
     let q = all_taken(p, area, &both, 4096);
-    limit_cases(group, p, q, run_pick(q, area, &both, kept))
+    let t = limit_cases(group, p, q, run_pick(q, area, &both, kept));
+    tallies::print_group(group, 0, t);
 }

@@ -1,11 +1,11 @@
--- `compare::print_generated` is safe and ends.
+-- `generated::print_measures` is safe and ends.
 -- Assumes nothing.
 use mathlib.Core.Path.{_≡_}
 use lib.ListN.{length}
 use Prim.Native.Nat.{_-_}
 use borrow.Author.Needs.{needs}
-use Rattle.compare.proofs.print_generated.Statement.{statement}
-use Rattle.compare.proofs.print_generated.Tie as tie
+use Rattle.generated.proofs.print_measures.Statement.{statement}
+use Rattle.generated.proofs.print_measures.Tie as tie
 
 abbrev Inv-loop : tie.InvT-loop
 Inv-loop group kind words₀ area₀ measure₀ words area measure = (length words ≡ length words₀) × (length area ≡ length area₀)
@@ -40,8 +40,8 @@ same-length-2 c = search needs
 returns : tie.Need-returns Inv-loop μ-loop
 returns c = search needs
 
-pub print-generated-spec : {M : Type 1} → statement M
-print-generated-spec =
+pub print-measures-spec : {M : Type 1} → statement M
+print-measures-spec =
     tie.close
     (tie.spec
     Inv-loop

@@ -1,11 +1,11 @@
--- `edges::table_edges` is safe and ends.
+-- `edges::print_table_edges` is safe and ends.
 -- Assumes nothing.
 use mathlib.Core.Path.{_≡_}
 use lib.ListN.{length}
 use Prim.Native.Nat.{_-_}
 use borrow.Author.Needs.{needs}
-use Rattle.edges.proofs.table_edges.Statement.{statement}
-use Rattle.edges.proofs.table_edges.Tie as tie
+use Rattle.edges.proofs.print_table_edges.Statement.{statement}
+use Rattle.edges.proofs.print_table_edges.Tie as tie
 use Rattle.rows.proofs.table_edge.Reads as table-edge-reads′
 
 abbrev Inv-loop : tie.InvT-loop
@@ -35,6 +35,9 @@ loop-less c = search needs
 loop-again : tie.Need-loop-again Inv-loop μ-loop
 loop-again c = search needs
 
+print-group-requires : tie.Need-print-group-requires Inv-loop μ-loop
+print-group-requires c κs = search needs
+
 same-length : tie.Need-same-length Inv-loop μ-loop
 same-length c = search needs
 
@@ -44,8 +47,8 @@ same-length-2 c = search needs
 returns : tie.Need-returns Inv-loop μ-loop
 returns c = search needs
 
-pub table-edges-spec : {M : Type 1} → statement M
-table-edges-spec =
+pub print-table-edges-spec : {M : Type 1} → statement M
+print-table-edges-spec =
     tie.close
     (tie.spec
     Inv-loop
@@ -57,6 +60,7 @@ table-edges-spec =
     add-i
     loop-less
     loop-again
+    print-group-requires
     same-length
     same-length-2
     returns)

@@ -1,11 +1,11 @@
--- `edges::read_edges` is safe and ends.
+-- `edges::print_read_edges` is safe and ends.
 -- Assumes nothing.
 use mathlib.Core.Path.{_≡_}
 use lib.ListN.{length}
 use Prim.Native.Nat.{_-_}
 use borrow.Author.Needs.{needs}
-use Rattle.edges.proofs.read_edges.Statement.{statement}
-use Rattle.edges.proofs.read_edges.Tie as tie
+use Rattle.edges.proofs.print_read_edges.Statement.{statement}
+use Rattle.edges.proofs.print_read_edges.Tie as tie
 use Rattle.rows.proofs.read_edge.Reads as read-edge-reads′
 
 abbrev Inv-loop : tie.InvT-loop
@@ -35,14 +35,17 @@ loop-less c = search needs
 loop-again : tie.Need-loop-again Inv-loop μ-loop
 loop-again c = search needs
 
+print-group-requires : tie.Need-print-group-requires Inv-loop μ-loop
+print-group-requires c κs = search needs
+
 same-length : tie.Need-same-length Inv-loop μ-loop
 same-length c = search needs
 
 returns : tie.Need-returns Inv-loop μ-loop
 returns c = search needs
 
-pub read-edges-spec : {M : Type 1} → statement M
-read-edges-spec =
+pub print-read-edges-spec : {M : Type 1} → statement M
+print-read-edges-spec =
     tie.close
     (tie.spec
     Inv-loop
@@ -54,5 +57,6 @@ read-edges-spec =
     add-i
     loop-less
     loop-again
+    print-group-requires
     same-length
     returns)

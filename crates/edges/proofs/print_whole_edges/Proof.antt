@@ -1,27 +1,27 @@
--- `edges::open_edges` is safe and ends.
+-- `edges::print_whole_edges` is safe and ends.
 -- Assumes nothing.
 use mathlib.Core.Path.{_≡_}
 use lib.ListN.{length}
 use Prim.Native.Nat.{_-_}
 use borrow.Author.Needs.{needs}
-use Rattle.edges.proofs.open_edges.Statement.{statement}
-use Rattle.edges.proofs.open_edges.Tie as tie
-use Rattle.rows.proofs.open_edge.Reads as open-edge-reads′
+use Rattle.edges.proofs.print_whole_edges.Statement.{statement}
+use Rattle.edges.proofs.print_whole_edges.Tie as tie
+use Rattle.rows.proofs.whole_edge.Reads as whole-edge-reads′
 
 abbrev Inv-loop : tie.InvT-loop
-Inv-loop group list₀ area₀ t₀ i₀ list area t i = (length list ≡ length list₀) × (length area ≡ length area₀)
+Inv-loop group words₀ area₀ t₀ i₀ words area t i = (length words ≡ length words₀) × (length area ≡ length area₀)
 
 abbrev μ-loop : tie.MeasureT-loop
-μ-loop group list₀ area₀ t₀ i₀ list area t i = 36 - i
+μ-loop group words₀ area₀ t₀ i₀ words area t i = 40 - i
 
 loop-holds : tie.Need-loop-holds Inv-loop μ-loop
 loop-holds c = search needs
 
-open-edge-requires : tie.Need-open-edge-requires Inv-loop μ-loop
-open-edge-requires c κs = search needs
+whole-edge-requires : tie.Need-whole-edge-requires Inv-loop μ-loop
+whole-edge-requires c κs = search needs
 
-open-edge-requires-2 : tie.Need-open-edge-requires-2 Inv-loop μ-loop
-open-edge-requires-2 c κs = search needs
+whole-edge-requires-2 : tie.Need-whole-edge-requires-2 Inv-loop μ-loop
+whole-edge-requires-2 c κs = search needs
 
 edge-requires : tie.Need-edge-requires Inv-loop μ-loop
 edge-requires c κs = search needs
@@ -35,6 +35,9 @@ loop-less c = search needs
 loop-again : tie.Need-loop-again Inv-loop μ-loop
 loop-again c = search needs
 
+print-group-requires : tie.Need-print-group-requires Inv-loop μ-loop
+print-group-requires c κs = search needs
+
 same-length : tie.Need-same-length Inv-loop μ-loop
 same-length c = search needs
 
@@ -44,19 +47,20 @@ same-length-2 c = search needs
 returns : tie.Need-returns Inv-loop μ-loop
 returns c = search needs
 
-pub open-edges-spec : {M : Type 1} → statement M
-open-edges-spec =
+pub print-whole-edges-spec : {M : Type 1} → statement M
+print-whole-edges-spec =
     tie.close
     (tie.spec
     Inv-loop
     μ-loop
     loop-holds
-    open-edge-requires
-    open-edge-requires-2
+    whole-edge-requires
+    whole-edge-requires-2
     edge-requires
     add-i
     loop-less
     loop-again
+    print-group-requires
     same-length
     same-length-2
     returns)

@@ -1,11 +1,11 @@
--- `walk_edges::place_edges` is safe and ends.
+-- `walk_edges::print_place_edges` is safe and ends.
 -- Assumes nothing.
 use mathlib.Core.Path.{_≡_}
 use lib.ListN.{length}
 use Prim.Native.Nat.{_-_}
 use borrow.Author.Needs.{needs}
-use Rattle.walk_edges.proofs.place_edges.Statement.{statement}
-use Rattle.walk_edges.proofs.place_edges.Tie as tie
+use Rattle.walk_edges.proofs.print_place_edges.Statement.{statement}
+use Rattle.walk_edges.proofs.print_place_edges.Tie as tie
 
 abbrev Inv-loop : tie.InvT-loop
 Inv-loop group area₀ kept₀ t₀ i₀ area kept t i = (length area ≡ length area₀) × (length kept ≡ length kept₀)
@@ -37,6 +37,9 @@ loop-less c = search needs
 loop-again : tie.Need-loop-again Inv-loop μ-loop
 loop-again c = search needs
 
+print-group-requires : tie.Need-print-group-requires Inv-loop μ-loop
+print-group-requires c κs = search needs
+
 same-length : tie.Need-same-length Inv-loop μ-loop
 same-length c = search needs
 
@@ -46,8 +49,8 @@ same-length-2 c = search needs
 returns : tie.Need-returns Inv-loop μ-loop
 returns c = search needs
 
-pub place-edges-spec : {M : Type 1} → statement M
-place-edges-spec =
+pub print-place-edges-spec : {M : Type 1} → statement M
+print-place-edges-spec =
     tie.close
     (tie.spec
     Inv-loop
@@ -60,6 +63,7 @@ place-edges-spec =
     add-i
     loop-less
     loop-again
+    print-group-requires
     same-length
     same-length-2
     returns)

@@ -1,23 +1,23 @@
--- `compare::print_picks` is safe and ends.
+-- `files::print_measures` is safe and ends.
 -- Assumes nothing.
 use mathlib.Core.Path.{_≡_}
 use lib.ListN.{length}
 use Prim.Native.Nat.{_-_}
 use borrow.Author.Needs.{needs}
-use Rattle.compare.proofs.print_picks.Statement.{statement}
-use Rattle.compare.proofs.print_picks.Tie as tie
+use Rattle.files.proofs.print_measures.Statement.{statement}
+use Rattle.files.proofs.print_measures.Tie as tie
 
 abbrev Inv-loop : tie.InvT-loop
-Inv-loop group area₀ kept₀ measure₀ area kept measure = (length area ≡ length area₀) × (length kept ≡ length kept₀)
+Inv-loop group kind words₀ area₀ measure₀ words area measure = (length words ≡ length words₀) × (length area ≡ length area₀)
 
 abbrev μ-loop : tie.MeasureT-loop
-μ-loop group area₀ kept₀ measure₀ area kept measure = 5 - measure
+μ-loop group kind words₀ area₀ measure₀ words area measure = 5 - measure
 
 loop-holds : tie.Need-loop-holds Inv-loop μ-loop
 loop-holds c = search needs
 
-pick-edges-requires : tie.Need-pick-edges-requires Inv-loop μ-loop
-pick-edges-requires c κs = search needs
+all-requires : tie.Need-all-requires Inv-loop μ-loop
+all-requires c κs = search needs
 
 print-group-requires : tie.Need-print-group-requires Inv-loop μ-loop
 print-group-requires c κs = search needs
@@ -40,14 +40,14 @@ same-length-2 c = search needs
 returns : tie.Need-returns Inv-loop μ-loop
 returns c = search needs
 
-pub print-picks-spec : {M : Type 1} → statement M
-print-picks-spec =
+pub print-measures-spec : {M : Type 1} → statement M
+print-measures-spec =
     tie.close
     (tie.spec
     Inv-loop
     μ-loop
     loop-holds
-    pick-edges-requires
+    all-requires
     print-group-requires
     add-measure
     loop-less
