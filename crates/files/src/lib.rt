@@ -122,7 +122,8 @@ fn stated_file(
     let end = listed::name_end(text);
     let f = load(&text[0..end], words);
     let got = comparing::whole_of(f.boards, f.picks, measure, words, area);
-    tallies::compared(t, group, &text[0..end], case, got, stated(text))
+    let at = case_of(case.number, measure);
+    tallies::compared(t, group, &text[0..end], at, got, stated(text))
 }
 
 // A refused file leaves every word of the output.

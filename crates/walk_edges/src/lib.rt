@@ -136,8 +136,14 @@ fn altered_pick(p: Place, lent: usize, area: &mut [u32], kept: &mut [u32]) -> Ou
 fn place_cases(group: &[u8], i: usize, e: PlaceEdge, p: Place, got: Outcome, t: Tally) -> Tally
     requires { ⌜ i < 100 ⌝ }
 {
-    let sum = tallies::edge(t, group, i, 0, got, e.4);
-    tallies::edge(sum, group, i, 0, run_length(p), e.5)
+    let case = Case {
+        number: i + 1,
+        measure: 0,
+        part: 0,
+    };
+    let length = run_length(p);
+    let sum = tallies::compared(t, group, b"pick", case, got, tallies::refused(e.4));
+    tallies::compared(sum, group, b"length", case, length, tallies::refused(e.5))
 }
 
 pub fn print_place_edges(group: &[u8], area: &mut [u32], kept: &mut [u32]) {
