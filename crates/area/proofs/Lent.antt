@@ -7,9 +7,9 @@ use native.Mathlib.Omega.{arith}
 use mathlib.Core.Logic.{⊎-elim}
 use lib.ListN.{length, length-take, length-drop}
 use Rattle.model.proofs.Logic.{eq-or}
-use Rattle.measures.specs.Kit.{widthOf}
+use Rattle.measures.specs.Kit.{widthOf, joinOf, kit}
 use Rattle.measures.proofs.Words.{width-times, width-links}
-use Rattle.area.specs.Parts.{Has, part}
+use Rattle.area.specs.Parts.{Has, part, putPart, composeAt}
 
 -- part i, from its first word to its last
 ends : (E words i : ℕ) → Has E words i → (i - 1) * E + E ≤ words
@@ -48,3 +48,9 @@ links-most measure n h f = omega (arith, width-links measure n f)
 pub part-long : {E : ℕ} (a : List ℕ) {i : ℕ} → Has E (length a) i → length (part E a i) ≡ E
 unfolding part
 part-long a h = simp (length-take, length-drop) (min-eq-left (omega (arith, fits h)))
+
+-- a composition onto its earlier part, where a table is one of links
+pub onto-at : (measure n : ℕ) (a : List ℕ) (d l r : ℕ) → (measure ≡ 4 → ⊥) → d ≡ l
+    → putPart n a d (joinOf measure n (part n a d) (part n a r)) ≡ composeAt (kit measure n) a d l r
+unfolding composeAt
+onto-at measure n a d l r f e = rw (width-links measure n f, e)

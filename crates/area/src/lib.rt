@@ -89,6 +89,25 @@ fn compose_times(area: &mut [u32], measure: usize, n: usize, d: usize, l: usize,
     compose_by(area, &mut left[0..e], &mut right[0..e], measure, n, d, l, r);
 }
 
+// Composes part r onto part d by way of right, which has a part's words and takes the copy.
+fn compose_onto(area: &mut [u32], right: &mut [u32], measure: usize, n: usize, d: usize, r: usize)
+    requires { ⌜ (measure ≤ 2) × ((n ≡ length (now right)) × (Has n (length (now area)) d × Has n (length (now area)) r)) ⌝ }
+    ensures { λ _. ⌜ now (area .exit) ≡ putPart n (now (area .entry)) d (joinOf measure n (part n (now (area .entry)) d) (part n (now (area .entry)) r)) ⌝ }
+{
+    take_part(right, area, n, r);
+    let at = (d - 1) * n;
+    measures::compose_over(&mut area[at..at + n], right, measure, n);
+}
+
+// Composes part r onto part d where the words compose one by one: only what is read alone is copied.
+fn compose_words(area: &mut [u32], measure: usize, n: usize, d: usize, r: usize)
+    requires { ⌜ (n ≤ 32) × ((measure ≤ 2) × (Has n (length (now area)) d × Has n (length (now area)) r)) ⌝ }
+    ensures { λ _. ⌜ now (area .exit) ≡ putPart n (now (area .entry)) d (joinOf measure n (part n (now (area .entry)) d) (part n (now (area .entry)) r)) ⌝ }
+{
+    let mut right = lists::no_words();
+    compose_onto(area, &mut right[0..n], measure, n, d, r);
+}
+
 // Part d becomes the composition of part l, the earlier, and part r, the later; d may be l or r.
 pub fn compose_parts(area: &mut [u32], measure: usize, n: usize, d: usize, l: usize, r: usize)
     requires { ⌜ (n ≤ 32) × (Has (widthOf measure n) (length (now area)) d × (Has (widthOf measure n) (length (now area)) l × Has (widthOf measure n) (length (now area)) r)) ⌝ }
@@ -97,6 +116,12 @@ pub fn compose_parts(area: &mut [u32], measure: usize, n: usize, d: usize, l: us
     if measure == 4 {
         compose_times(area, measure, n, d, l, r);
         return;
+    }
+    if d == l {
+        if measure <= 2 {
+            compose_words(area, measure, n, d, r);
+            return;
+        }
     }
     compose_links(area, measure, n, d, l, r);
 }

@@ -60,6 +60,16 @@ pub fn unite_into(t: &mut [u32], right: &[u32], n: usize)
     }
 }
 
+// Of the links of t, those stay that `right` has too.
+pub fn intersect_into(t: &mut [u32], right: &[u32], n: usize)
+    requires { ⌜ (n ≡ length (now t)) × (n ≤ length (now right)) ⌝ }
+    ensures { λ _. ⌜ now (t .exit) ≡ intersection n (now (t .entry)) (now (right .entry)) ⌝ }
+{
+    for u in 0..n {
+        t[u] = t[u] & right[u];
+    }
+}
+
 // A column: `row`, what board b reaches in the later part, goes to every board that reaches b in the earlier one.
 fn add_column(out: &mut [u32], left: &[u32], row: u32, b: Board, n: usize)
     requires { ⌜ (b .0 < 32) × ((n ≡ length (now out)) × (n ≤ length (now left))) ⌝ }

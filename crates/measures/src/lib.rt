@@ -36,6 +36,18 @@ pub fn compose(out: &mut [u32], left: &[u32], right: &[u32], measure: usize, n: 
     links::intersect(out, left, right, n);
 }
 
+// Writes over t, the earlier part, its composition with right, the later: for the measures whose tables compose word by word.
+pub fn compose_over(t: &mut [u32], right: &[u32], measure: usize, n: usize)
+    requires { ⌜ (measure ≤ 2) × ((n ≡ length (now t)) × (n ≤ length (now right))) ⌝ }
+    ensures { λ _. ⌜ now (t .exit) ≡ joinOf measure n (now (t .entry)) (now (right .entry)) ⌝ }
+{
+    if measure == 2 {
+        links::unite_into(t, right, n);
+        return;
+    }
+    links::intersect_into(t, right, n);
+}
+
 // The own table of measure 4: the pairs joined within the pick are worked out in a local table of links.
 fn own_times(out: &mut [u32], words: &[u32], n: usize, pick: Pick)
     requires { ⌜ (n ≤ 32) × ((pick .0 < 2 ^ 32) × ((n * n + n * n ≡ length (now out)) × (n ≡ length (now words)))) ⌝ }
