@@ -14,7 +14,7 @@ use Rattle.model.proofs.Logic.{le-or-lt}
 use Rattle.lists.specs.Tab.{zeros}
 use Rattle.lists.proofs.Tab.{length-tab, length-zeros}
 use Rattle.links.specs.Tables.{intersection, union, compose, within}
-use Rattle.links.proofs.Closure.{length-within}
+use Rattle.links.proofs.Ways.{length-within}
 use Rattle.times.specs.Times.{composeTimes, arrivals, departures, ownTimes}
 use Rattle.times.proofs.Cells.{length-rows}
 use Rattle.measures.specs.Kit.{Kit, kit, either, widthOf, ownOf, joinOf}

@@ -15,8 +15,8 @@ use lib.Pow.{pow-pos, pow-mono, ones-lt, lt-of-le-ones}
 use Rattle.model.specs.Recording.{bit, link}
 use Rattle.model.proofs.Logic.{tr, F→≡, cases, bool-ext, or-l, or-r, or-cases, and-both, and-l, and-r, not-in, not-out, eq-refl}
 use Rattle.model.proofs.Bits.{bit-high, bit-or, bit-and, bit-one, bit-complement, bits-ext}
+use Rattle.model.proofs.Ones.{bit-low}
 use Rattle.lists.specs.Tab.{every}
-use Rattle.links.proofs.Full.{bit-low}
 use Rattle.checks.specs.Checks.{allowed, cleanRow, listedRow}
 
 -- words or-ed together are 0 exactly when each is

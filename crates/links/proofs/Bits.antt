@@ -1,5 +1,5 @@
 -- The links of the tables that the operations write, on the words as they are found. Assumes nothing.
-use mathlib.Core.Path.{_≡_, refl, sym, ap, ap₂, _∙_, subst}
+use mathlib.Core.Path.{_≡_, refl, sym, ap, _∙_, subst}
 use mathlib.Core.Logic.{_≢_, _⊎_, inl, inr, ⊎-elim, _↔_}
 use mathlib.Core.Bool.{Bool, true, false, _||_, _&&_, not}
 use mathlib.Core.List.{List}
@@ -7,7 +7,7 @@ use Prim.Native.Nat.{ℕ, zero, suc, _-_, _^_, _≤_, _<_}
 use native.Mathlib.Nat.{lt-of-lt-of-le, lt-of-le-of-lt, not-suc-le-zero}
 use native.Mathlib.Decide.{decLt}
 use native.Mathlib.Omega.{arith}
-use lib.Bits.{bitAnd, bitOr, or-lt, and-le-l, and-le-r}
+use lib.Bits.{bitOr, or-lt, and-le-l, and-le-r}
 use lib.Dec.{T, eqb}
 use lib.ListN.{length, getD, List·getD-eq-default}
 use lib.Pow.{pow-pos, pow-lt}

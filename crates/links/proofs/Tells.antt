@@ -2,17 +2,16 @@
 -- and the test. Assumes nothing.
 use mathlib.Core.Path.{_≡_, refl, sym, ap, _∙_, subst}
 use mathlib.Core.Logic.{_≢_, _⊎_, inl, inr, ⊎-elim, _↔_}
-use mathlib.Core.Bool.{_||_, _&&_}
 use mathlib.Core.List.{List}
-use Prim.Native.Nat.{ℕ, zero, suc, _+_, _≤_, _<_}
-use native.Mathlib.Nat.{le-refl, le-trans, lt-of-lt-of-le}
+use Prim.Native.Nat.{ℕ, zero, suc, _≤_, _<_}
+use native.Mathlib.Nat.{le-refl, lt-of-lt-of-le}
 use native.Mathlib.Omega.{arith}
 use lib.Dec.{T, eqb, eqb→eq}
 use lib.ListN.{length, getD}
 use lib.Seq.{ext-getD}
-use Rattle.model.specs.Recording.{bit, link, Words, Clean, Recording, pickAt}
+use Rattle.model.specs.Recording.{link, Words, Clean, Recording, pickAt}
 use Rattle.model.specs.Journey.{Limit, atMost, Open, Journey}
-use Rattle.model.specs.Measures.{EveryPair, CommonLink, Leads, here, along, PassesCommon, SomeLink, PassesFootprint, PassesReach}
+use Rattle.model.specs.Measures.{EveryPair, CommonLink, Leads, here, along, SomeLink}
 use Rattle.model.proofs.Logic.{tr, bool-ext, or-l, or-r, or-cases, and-both, and-l, and-r, eq-or, eq-refl, le-or-lt}
 use Rattle.model.proofs.Links.{link-from, link-to, links-ext}
 use Rattle.model.proofs.Windows.{pick-at}
@@ -22,7 +21,7 @@ use Rattle.lists.proofs.Tab.{every-in, every-out}
 use Rattle.links.specs.Tables.{intersection, union, compose, within, pairFull, rowFull, full, connected, rowSame, same}
 use Rattle.links.specs.Tells.{Marks}
 use Rattle.links.proofs.Bits.{zeros-clean, compose-link, compose-clean, intersection-link, intersection-clean, union-link, union-clean}
-use Rattle.links.proofs.Closure.{Way, one, more, Short, within-way}
+use Rattle.links.proofs.Ways.{Way, one, more, Short, within-way}
 
 -- a table that marks the same pairs is the same table
 pub marks-once : {n : ℕ} {R : ℕ → ℕ → Type 0} {s t : List ℕ} → Marks n R s → Marks n R t → s ≡ t

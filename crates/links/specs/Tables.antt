@@ -34,10 +34,6 @@ unfoldable pub gathered : ℕ → ℕ → List ℕ → ℕ → ℕ
 gathered x row t zero = x
 gathered x row t (suc k) = bitOr (gathered x row t k) (kept (bit row k) (getD t k 0))
 
--- word u of `out`, united with `row` where word u of s has bit w: what one column of the composition adds
-unfoldable pub columnRow : List ℕ → List ℕ → ℕ → ℕ → ℕ → ℕ
-columnRow out s row w u = bitOr (getD out u 0) (kept (link s u w) row)
-
 -- row u of the union, with the first k boards gone through
 unfoldable pub throughRow : List ℕ → List ℕ → ℕ → ℕ → ℕ
 throughRow s t k u = gathered (eitherRow s t u) (getD s u 0) t k

@@ -26,7 +26,7 @@ pub fn compose(out: &mut [u32], left: &[u32], right: &[u32], measure: usize, n: 
         return;
     }
     if measure == 3 {
-        links::join(out, left, right, n);
+        joins::join(out, left, right, n);
         return;
     }
     if measure == 2 {
@@ -53,7 +53,7 @@ fn own_times(out: &mut [u32], words: &[u32], n: usize, pick: Pick)
     requires { ⌜ (n ≤ 32) × ((pick .0 < 2 ^ 32) × ((n * n + n * n ≡ length (now out)) × (n ≡ length (now words)))) ⌝ }
     ensures { λ _. ⌜ now (out .exit) ≡ ownTimes n (pick .0) (within n 31 (now (words .entry))) ⌝ }
 {
-    let joined = links::closed_words(words, n);
+    let joined = joins::closed_words(words, n);
     times::own(out, &joined[0..n], n, pick);
 }
 
@@ -67,7 +67,7 @@ pub fn own(out: &mut [u32], words: &[u32], measure: usize, n: usize, pick: Pick)
         return;
     }
     if measure == 3 {
-        links::close_over(out, words, n);
+        joins::close_over(out, words, n);
         return;
     }
     lists::copy_over(out, words, n);
@@ -82,10 +82,10 @@ pub fn passes(footprint: &[u32], t: &[u32], measure: usize, n: usize) -> bool
         return times::in_time(t, n);
     }
     if measure == 3 {
-        return links::is_full(t, n);
+        return searches::is_full(t, n);
     }
     if measure == 2 {
         return links::is_same(footprint, t, n);
     }
-    links::is_connected(t, n)
+    searches::is_connected(t, n)
 }

@@ -12,7 +12,7 @@ use lib.Seq.{length-take-le}
 use Rattle.model.proofs.Logic.{tr, eq-refl}
 use Rattle.links.specs.Tables.{compose, composeRow, within}
 use Rattle.links.specs.Composed.{composedFrom, composed, reach}
-use Rattle.links.proofs.Closure.{length-within}
+use Rattle.links.proofs.Ways.{length-within}
 use Rattle.lists.specs.Tab.{padded}
 use Rattle.lists.proofs.Tab.{take-padded}
 use Rattle.checks.proofs.Lent.{length-lent}

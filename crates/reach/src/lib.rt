@@ -22,8 +22,8 @@ fn add_pick(out: &mut [u32], pick: &[u32], n: usize)
     ensures { λ _. ⌜ now (out .exit) ≡ compose n (now (out .entry)) (within n 31 (now (pick .entry))) ⌝ }
 {
     let before = lists::load(out, n);
-    let own = links::closed_words(pick, n);
-    links::join(out, &before[0..n], &own[0..n], n);
+    let own = joins::closed_words(pick, n);
+    joins::join(out, &before[0..n], &own[0..n], n);
 }
 
 // The table of m picks, from the first one on.
@@ -31,7 +31,7 @@ fn write_table(out: &mut [u32], words: &[u32], n: usize, m: usize)
     requires { ⌜ (n ≤ 32) × ((n ≡ length (now out)) × ((1 ≤ m) × ((m ≤ 4096) × (m * n ≤ length (now words))))) ⌝ }
     ensures { λ _. ⌜ now (out .exit) ≡ reach n 31 (lentPicks n (now (words .entry)) m) ⌝ }
 {
-    links::close_over(out, &words[0..n], n);
+    joins::close_over(out, &words[0..n], n);
     for k in 1..m {
         let at = k * n;
         add_pick(out, &words[at..at + n], n);

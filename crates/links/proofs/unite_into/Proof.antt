@@ -1,8 +1,6 @@
 -- `links::unite_into` meets its contract. The invariant is `Made`; word u is read before it is written (`made-read`).
 -- Assumes nothing.
-use mathlib.Core.Path.{_≡_, ap}
-use Prim.Native.Nat.{ℕ, _-_}
-use lib.Bits.{bitOr}
+use Prim.Native.Nat.{_-_}
 use Rattle.lists.proofs.Tab.{Made, made-start, made-turn, made-read, made-all}
 use Rattle.links.specs.Tables.{eitherRow, union}
 use borrow.Author.Needs.{needs}

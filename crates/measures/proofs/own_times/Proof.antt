@@ -1,7 +1,7 @@
 -- `measures::own_times` meets its contract.
 -- Assumes nothing.
 use mathlib.Core.Path.{_∙_}
-use Rattle.links.proofs.Padded.{within-padded}
+use Rattle.joins.proofs.Padded.{within-padded}
 use borrow.Author.Needs.{needs}
 use Rattle.measures.proofs.own_times.Statement.{statement}
 use Rattle.measures.proofs.own_times.Tie as tie

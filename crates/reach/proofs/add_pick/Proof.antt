@@ -2,7 +2,7 @@
 -- Assumes nothing.
 use mathlib.Core.Path.{_≡_, ap₂, _∙_}
 use Rattle.links.specs.Tables.{compose}
-use Rattle.links.proofs.Padded.{within-padded}
+use Rattle.joins.proofs.Padded.{within-padded}
 use Rattle.reach.proofs.Picks.{load-words}
 use native.Mathlib.Nat.{sub-zero}
 use Rattle.lists.proofs.Tab.{take-padded}

@@ -1,0 +1,158 @@
+// The pairs of boards that are joined: over two parts of a recording, by the composition of measure 3, and within one pick, its own table. A table
+// is that of `links`: n words, 2 to 32, bit v of word u for the pair u, v. Words are taken as they are found.
+ghost use mathlib.Core.Path.{_≡_};
+ghost use Prim.Native.Nat.{_+_, _≤_, _<_};
+ghost use lib.ListN.{length};
+ghost use Rattle.lists.specs.Tab.{tab, padded};
+ghost use Rattle.links.specs.Tables.{without, union, throughRow, compose, within};
+ghost use Rattle.joins.specs.Columns.{columnRow, fourRow};
+ghost use Rattle.joins.specs.Warshall.{pass, passes, clearRow};
+use model::Board;
+
+// ---- own bits
+
+// x, with bit b clear.
+fn cleared(x: u32, b: Board) -> u32
+    requires { ⌜ b .0 < 32 ⌝ }
+    ensures { λ r. ⌜ r ≡ without x (b .0) ⌝ }
+{
+    let v = b.0;
+    x & !(1u32 << v)
+}
+
+// The bits of the boards' own links are cleared.
+fn clear_own(t: &mut [u32], n: usize)
+    requires { ⌜ (n ≤ 32) × (n ≡ length (now t)) ⌝ }
+    ensures { λ _. ⌜ now (t .exit) ≡ tab (clearRow (now (t .entry))) n ⌝ }
+{
+    for u in 0..n {
+        t[u] = cleared(t[u], Board(u));
+    }
+}
+
+// ---- two parts: the composition of measure 3
+
+// A column: `row`, what board b reaches in the later part, goes to every board that reaches b in the earlier one.
+fn add_column(out: &mut [u32], left: &[u32], row: u32, b: Board, n: usize)
+    requires { ⌜ (b .0 < 32) × ((n ≡ length (now out)) × (n ≤ length (now left))) ⌝ }
+    ensures { λ _. ⌜ now (out .exit) ≡ tab (columnRow (now (out .entry)) (now (left .entry)) row (b .0)) n ⌝ }
+{
+    if row == 0 {
+        return;
+    }
+    let w = b.0;
+    for u in 0..n {
+        out[u] = out[u] | lists::keep(row, (left[u] >> w) % 2);
+    }
+}
+
+// The columns of b and the three boards after it: four at once, so that each word of out is read and written once for them.
+fn add_four(out: &mut [u32], left: &[u32], right: &[u32], b: Board, n: usize)
+    requires { ⌜ (n ≤ 32) × ((b .0 + 4 ≤ n) × ((n ≡ length (now out)) × ((n ≤ length (now left)) × (n ≤ length (now right))))) ⌝ }
+    ensures { λ _. ⌜ now (out .exit) ≡ tab (fourRow (now (out .entry)) (now (left .entry)) (now (right .entry)) (b .0)) n ⌝ }
+{
+    let w = b.0;
+    let first = right[w];
+    let second = right[w + 1];
+    let third = right[w + 2];
+    let fourth = right[w + 3];
+    if first | second | third | fourth == 0 {
+        return;
+    }
+    for u in 0..n {
+        let l = left[u] >> w;
+        out[u] = out[u]
+            | lists::keep(first, l % 2)
+            | lists::keep(second, (l >> 1) % 2)
+            | lists::keep(third, (l >> 2) % 2)
+            | lists::keep(fourth, (l >> 3) % 2);
+    }
+}
+
+// The columns of the boards below r, as many as go by fours.
+fn add_fours(out: &mut [u32], left: &[u32], right: &[u32], n: usize) -> usize
+    requires { ⌜ (n ≤ 32) × ((now out ≡ union n (now left) (now right)) × ((n ≡ length (now out)) × ((n ≤ length (now left)) × (n ≤ length (now right))))) ⌝ }
+    ensures { λ r. ⌜ (r ≤ n) × (now (out .exit) ≡ tab (throughRow (now (left .entry)) (now (right .entry)) r) n) ⌝ }
+{
+    let mut w = 0;
+    while w + 4 <= n {
+        add_four(out, left, right, Board(w), n);
+        w += 4;
+    }
+    w
+}
+
+// The columns of all boards.
+fn add_columns(out: &mut [u32], left: &[u32], right: &[u32], n: usize)
+    requires { ⌜ (n ≤ 32) × ((now out ≡ union n (now left) (now right)) × ((n ≡ length (now out)) × ((n ≤ length (now left)) × (n ≤ length (now right))))) ⌝ }
+    ensures { λ _. ⌜ now (out .exit) ≡ tab (throughRow (now (left .entry)) (now (right .entry)) n) n ⌝ }
+{
+    let from = add_fours(out, left, right, n);
+    for w in from..n {
+        add_column(out, left, right[w], Board(w), n);
+    }
+}
+
+// The union, and the pairs that are joined over some board.
+pub fn join(out: &mut [u32], left: &[u32], right: &[u32], n: usize)
+    requires { ⌜ (n ≤ 32) × ((n ≡ length (now out)) × ((n ≤ length (now left)) × (n ≤ length (now right)))) ⌝ }
+    ensures { λ _. ⌜ now (out .exit) ≡ compose n (now (left .entry)) (now (right .entry)) ⌝ }
+{
+    links::unite(out, left, right, n);
+    add_columns(out, left, right, n);
+    clear_own(out, n);
+}
+
+// ---- a pick's own table
+
+// Each row that links to b takes in b's row.
+fn pass_over(t: &mut [u32], b: Board, n: usize)
+    requires { ⌜ (n ≤ 32) × ((b .0 < n) × (n ≡ length (now t))) ⌝ }
+    ensures { λ _. ⌜ now (t .exit) ≡ pass n (now (t .entry)) (b .0) ⌝ }
+{
+    let w = b.0;
+    let row = t[w];
+    if row == 0 {
+        return;
+    }
+    for u in 0..n {
+        t[u] = t[u] | lists::keep(row, (t[u] >> w) % 2);
+    }
+}
+
+fn pass_over_all(t: &mut [u32], n: usize)
+    requires { ⌜ (n ≤ 32) × (n ≡ length (now t)) ⌝ }
+    ensures { λ _. ⌜ now (t .exit) ≡ passes n (now (t .entry)) n ⌝ }
+{
+    for w in 0..n {
+        pass_over(t, Board(w), n);
+    }
+}
+
+// The pairs joined within one pick, by Warshall's method: 31 links are no limit for 32 boards.
+pub fn close(t: &mut [u32], n: usize)
+    requires { ⌜ (n ≤ 32) × (n ≡ length (now t)) ⌝ }
+    ensures { λ _. ⌜ now (t .exit) ≡ within n 31 (now (t .entry)) ⌝ }
+{
+    pass_over_all(t, n);
+    clear_own(t, n);
+}
+
+// The pairs joined within the pick of the words, over out.
+pub fn close_over(out: &mut [u32], words: &[u32], n: usize)
+    requires { ⌜ (n ≤ 32) × ((n ≡ length (now out)) × (n ≡ length (now words))) ⌝ }
+    ensures { λ _. ⌜ now (out .exit) ≡ within n 31 (now (words .entry)) ⌝ }
+{
+    lists::copy_over(out, words, n);
+    close(out, n);
+}
+
+// The pairs joined within the pick of the words, by value, and zeros up to 32.
+pub fn closed_words(words: &[u32], n: usize) -> [u32; 32]
+    requires { ⌜ (n ≤ 32) × (n ≡ length (now words)) ⌝ }
+    ensures { λ r. ⌜ r ≡ padded 32 (within n 31 (now (words .entry))) ⌝ }
+{
+    let mut t = lists::load(words, n);
+    close(&mut t[0..n], n);
+    t
+}

@@ -1,0 +1,3 @@
+-- Laws of the searches.
+pub mod Full
+pub mod Search

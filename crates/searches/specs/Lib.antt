@@ -1,0 +1,2 @@
+-- Definitions that the contracts of `searches` cite.
+pub mod Search

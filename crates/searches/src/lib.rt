@@ -1,0 +1,121 @@
+// Whether boards reach each other: the tests of measures 3 and 1 on a table of links between n boards, 2 to 32. Words are taken as they are found.
+ghost use mathlib.Core.Path.{_≡_};
+ghost use Prim.Native.Nat.{_-_, _^_, _≤_, _<_};
+ghost use lib.ListN.{length};
+ghost use Rattle.links.specs.Tables.{within, rowFull, full, connected};
+ghost use Rattle.searches.specs.Search.{spread, joined, collect, columnFull};
+use model::Board;
+
+// The word of the bits below n.
+fn low_bits(n: usize) -> u32
+    requires { ⌜ n ≤ 32 ⌝ }
+    ensures { λ r. ⌜ r ≡ 2 ^ n - 1 ⌝ }
+{
+    if n == 0 {
+        return 0;
+    }
+    !0u32 >> (32 - n)
+}
+
+// Whether every ordered pair of different boards is marked: a row and its own bit have the bits of all boards.
+pub fn is_full(t: &[u32], n: usize) -> bool
+    requires { ⌜ (n ≤ 32) × (n ≤ length (now t)) ⌝ }
+    ensures { λ r. ⌜ r ≡ full n (now (t .entry)) ⌝ }
+{
+    let all = low_bits(n);
+    for u in 0..n {
+        if (t[u] | (1u32 << u)) & all != all {
+            return false;
+        }
+    }
+    true
+}
+
+// ---- a search from board 0, onward and backward
+
+// The boards of seen, and those that their links lead to; further ones too, where the boards come in that order.
+fn onward(t: &[u32], seen: u32, n: usize) -> u32
+    requires { ⌜ (n ≤ 32) × (n ≤ length (now t)) ⌝ }
+    ensures { λ r. ⌜ r ≡ spread (now (t .entry)) seen n ⌝ }
+{
+    let mut s = seen;
+    for w in 0..n {
+        s = s | lists::keep(t[w], (s >> w) % 2);
+    }
+    s
+}
+
+// The boards of s, and b where its row leads to one of them.
+fn with_board(s: u32, row: u32, b: Board) -> u32
+    requires { ⌜ b .0 < 32 ⌝ }
+    ensures { λ r. ⌜ r ≡ joined s row (b .0) ⌝ }
+{
+    if row & s == 0 {
+        return s;
+    }
+    let w = b.0;
+    s | (1u32 << w)
+}
+
+// The boards of seen, and those that lead to them.
+fn backward(t: &[u32], seen: u32, n: usize) -> u32
+    requires { ⌜ (n ≤ 32) × (n ≤ length (now t)) ⌝ }
+    ensures { λ r. ⌜ r ≡ collect (now (t .entry)) seen n ⌝ }
+{
+    let mut s = seen;
+    for w in 0..n {
+        s = with_board(s, t[w], Board(w));
+    }
+    s
+}
+
+// Whether links lead from board 0 to every other. The search ends when it has all boards or a turn finds no more; 32 turns are enough.
+fn leads_to_all(t: &[u32], n: usize) -> bool
+    requires { ⌜ (n ≤ 32) × (n ≤ length (now t)) ⌝ }
+    ensures { λ r. ⌜ r ≡ rowFull n (within n 31 (now (t .entry))) 0 ⌝ }
+{
+    let all = low_bits(n);
+    let mut s = 1u32;
+    for k in 0..32usize {
+        if s & all == all {
+            return true;
+        }
+        let next = onward(t, s, n);
+        if next == s {
+            return false;
+        }
+        s = next;
+    }
+    s & all == all
+}
+
+// Whether links lead from every other board to board 0.
+fn all_lead_back(t: &[u32], n: usize) -> bool
+    requires { ⌜ (n ≤ 32) × (n ≤ length (now t)) ⌝ }
+    ensures { λ r. ⌜ r ≡ columnFull n (within n 31 (now (t .entry))) 0 ⌝ }
+{
+    let all = low_bits(n);
+    let mut s = 1u32;
+    for k in 0..32usize {
+        if s & all == all {
+            return true;
+        }
+        let next = backward(t, s, n);
+        if next == s {
+            return false;
+        }
+        s = next;
+    }
+    s & all == all
+}
+
+// Whether links of the table lead from every board to every other: to board 0, and from there on.
+pub fn is_connected(t: &[u32], n: usize) -> bool
+    requires { ⌜ (n ≤ 32) × (n ≡ length (now t)) ⌝ }
+    ensures { λ r. ⌜ r ≡ connected n (now (t .entry)) ⌝ }
+{
+    if !leads_to_all(t, n) {
+        return false;
+    }
+    all_lead_back(t, n)
+}
