@@ -4,21 +4,18 @@ use mathlib.Core.Bool.{Bool, true, false, _&&_, not}
 use mathlib.Core.Option.{none, some}
 use mathlib.Core.List.{List}
 use Prim.Native.Nat.{ℕ, zero, suc, _+_, _-_, _/_, _≤_, _<_, _^_}
-use native.Mathlib.Nat.{lt-of-le-of-lt, le-refl}
+use native.Mathlib.Nat.{le-refl}
 use native.Mathlib.Numerals.{add-one}
 use native.Mathlib.Omega.{arith}
 use lib.Dec.{eqb, eqb→eq, ltb, lit<}
 use lib.ListN.{length}
-use borrow.Author.Tests.{leb-true}
 use Rattle.model.specs.declared.Refusal.{Refusal}
-use Rattle.model.specs.declared.Refusal.the-variants.{Boards, Measure, Picks, Room, Forbidden, Unlisted, Full, NoPick, NoLength, Shape, Command, Stopped, Operands, Unchanged, Trailing, BadPlace}
 use Rattle.model.specs.Refusals.{number}
-use Rattle.model.specs.Journey.{val}
 use Rattle.checks.specs.Lent.{lentPick}
 use Rattle.measures.specs.Kit.{Kit, kit, either}
 use Rattle.place.specs.declared.Place.{Place}
 use Rattle.place.specs.Places.{fresh, nowhere, charged, soundPlace, Sound}
-use Rattle.place.proofs.Laws.{sound-says, and-left, and-right}
+use Rattle.place.proofs.Laws.{sound-says}
 use Rattle.steps.specs.Walk.{State, kitOf, stepped, reported}
 use Rattle.steps.proofs.Ready.{Stepped, stepped-grown, sound-ready}
 use Rattle.calls.specs.Answers.{Handed, handed, outcome}
@@ -28,31 +25,11 @@ use Rattle.calls.proofs.Verdicts.{open-sound, pick-sound, whole-sound, taken-st
 use Rattle.calls.proofs.Opened.{opened-length}
 use Rattle.steps.proofs.Frames.{either-ind}
 use Rattle.calls.proofs.Loops.{Along, along-start, along-turn, whole-starts, list-cost, length-unions}
-use Rattle.nookmallow.specs.declared.PlaceWords.{PlaceWords}
-use Rattle.nookmallow.specs.declared.HandedWords.{HandedWords}
-use Rattle.nookmallow.specs.Boundary.{flag, flags, placeOf, wordsOf, handedAs, handedWords, pickAnswers, pickKeeps, Narrow, NarrowAnswer}
-
--- far below what a word holds
-pub small : {x : ℕ} → x ≤ 100000000 → x < 2 ^ 32
-small h = lt-of-le-of-lt h (lit< tt)
-
-pub number-small : (c : Refusal) → number c < 2 ^ 32
-number-small Boards = lit< tt
-number-small Measure = lit< tt
-number-small Picks = lit< tt
-number-small Room = lit< tt
-number-small Forbidden = lit< tt
-number-small Unlisted = lit< tt
-number-small Full = lit< tt
-number-small NoPick = lit< tt
-number-small NoLength = lit< tt
-number-small Shape = lit< tt
-number-small Command = lit< tt
-number-small Stopped = lit< tt
-number-small Operands = lit< tt
-number-small Unchanged = lit< tt
-number-small Trailing = lit< tt
-number-small BadPlace = lit< tt
+use Rattle.crossing.specs.declared.PlaceWords.{PlaceWords}
+use Rattle.crossing.specs.declared.HandedWords.{HandedWords}
+use Rattle.crossing.specs.Words.{flags, placeOf, wordsOf, handedAs, handedWords, Narrow, NarrowAnswer}
+use Rattle.crossing.proofs.Fits.{small, words-back}
+use Rattle.nookmallow.specs.Boundary.{pickAnswers, pickKeeps}
 
 -- ---- opening
 
@@ -190,22 +167,7 @@ whole-narrow n measure w a =
     (λ t. run-narrow n measure (length w / n) w a (whole-sound n measure w a (eqb→eq _ _ t)))
     (λ t. no-answer _)
 
--- ---- places as words
-
-flag-back : (x : ℕ) → flag x ≡ true → val (eqb x 1) ≡ x
-flag-back zero e = refl
-flag-back (suc zero) e = refl
-flag-back (suc (suc x)) e = let h = leb-true (suc (suc x)) 1 e in absurd (omega arith)
-
--- ten words are those of the place they stand for
-pub words-back : (p : PlaceWords) → flags p ≡ true → wordsOf (placeOf p) ≡ p
-unfolding placeOf wordsOf
-words-back p e = simp (flag-back (p .failed) (and-left _ _ e), flag-back (p .passed) (and-right (flag (p .failed)) _ e))
-
 -- ---- answers as words, from what a call answered
-
-pub handed-is : {c x : ℕ} {p : Place} {r : PlaceWords} {h : Handed} → x ≡ c → r ≡ wordsOf p → handed c p ≡ h → handedAs x r ≡ handedWords h
-handed-is e f g = rw (e, f) (ap handedWords g)
 
 -- the flags are flags: the answer is that of the call, on the place that the words stand for
 pub picked-is : (p : PlaceWords) (a w : List ℕ) {q : Place} {r : HandedWords} → flags p ≡ true → q ≡ placeOf p → r ≡ handedWords (pickSays q a w) → r ≡ pickAnswers p a w

@@ -1,78 +1,13 @@
--- The C boundary: places and answers as words of 32 bits, and what each function answers and leaves, for every input. All is said by the
--- definitions of the calls beneath; what the boundary adds is the two flags of the place, which are words in C.
-use Prim.Native.Nat.{ℕ, _<_, _^_}
-use mathlib.Core.Bool.{Bool, _&&_}
+-- What each function of the C boundary answers and leaves, for every input. All is said by the definitions of the calls beneath; what the
+-- boundary adds is the two flags of the place: one that is none is 16, with the place and the area as they were.
 use mathlib.Core.List.{List}
-use lib.Dec.{eqb, leb}
-use Rattle.model.specs.Journey.{val}
+use Prim.Native.Nat.{ℕ}
 use Rattle.measures.specs.Kit.{either}
-use Rattle.place.specs.declared.Place.{Place}
-use Rattle.calls.specs.Answers.{Handed, Outcome, outcome}
+use Rattle.calls.specs.Answers.{Outcome, outcome}
 use Rattle.calls.specs.Calls.{pickSays, pickLeaves, lengthSays}
-use Rattle.recording.specs.Answers.{Read}
-use Rattle.nookmallow.specs.declared.PlaceWords.{PlaceWords}
-use Rattle.nookmallow.specs.declared.HandedWords.{HandedWords}
-use Rattle.nookmallow.specs.declared.AnswerWords.{AnswerWords}
-use Rattle.nookmallow.specs.declared.MeasuredWords.{MeasuredWords}
-use Rattle.nookmallow.specs.declared.ReadingWords.{ReadingWords}
-
--- ---- places
-
--- 0 for no and 1 for yes; any other word is no flag
-abbrev pub flag : ℕ → Bool
-flag x = leb x 1
-
-abbrev pub flags : PlaceWords → Bool
-flags p = flag (p .failed) && flag (p .passed)
-
--- the place that ten words stand for, where the flags are flags
-unfoldable pub placeOf : PlaceWords → Place
-placeOf p = record {
-  boards = p .boards;
-  measure = p .measure;
-  limit = p .limit;
-  taken = record { 0 = p .taken };
-  start = record { 0 = p .start };
-  boundary = record { 0 = p .boundary };
-  failed = eqb (p .failed) 1;
-  passed = eqb (p .passed) 1;
-  compositions = record { 0 = p .compositions };
-  tests = record { 0 = p .tests };
-}
-
--- the ten words of a place
-unfoldable pub wordsOf : Place → PlaceWords
-wordsOf p = record {
-  boards = p .boards;
-  measure = p .measure;
-  limit = p .limit;
-  taken = p .taken .0;
-  start = p .start .0;
-  boundary = p .boundary .0;
-  failed = val (p .failed);
-  passed = val (p .passed);
-  compositions = p .compositions .0;
-  tests = p .tests .0;
-}
-
--- ---- answers
-
-abbrev pub handedAs : ℕ → PlaceWords → HandedWords
-handedAs c p = record { refusal = c; place = p }
-
-abbrev pub handedWords : Handed → HandedWords
-handedWords h = handedAs (h .refusal) (wordsOf (h .place))
-
-abbrev pub answerWords : Outcome → AnswerWords
-answerWords o = record { refusal = o .refusal; length = o .length; compositions = o .compositions; tests = o .tests }
-
-abbrev pub measuredWords : Outcome → PlaceWords → MeasuredWords
-measuredWords o p = record { refusal = o .refusal; length = o .length; compositions = o .compositions; tests = o .tests; place = p }
-
-abbrev pub readingWords : Read → ReadingWords
-readingWords r = record { refusal = r .refusal; boards = r .boards; picks = r .picks }
-
--- ---- the calls on ten words: a flag that is none is 16, with the place and the area as they were
+use Rattle.crossing.specs.declared.PlaceWords.{PlaceWords}
+use Rattle.crossing.specs.declared.HandedWords.{HandedWords}
+use Rattle.crossing.specs.Words.{flags, placeOf, handedAs, handedWords}
 
 unfoldable pub pickAnswers : PlaceWords → List ℕ → List ℕ → HandedWords
 pickAnswers p a w = either (flags p) (handedWords (pickSays (placeOf p) a w)) (handedAs 16 p)
@@ -82,20 +17,3 @@ pickKeeps p a w = either (flags p) (pickLeaves (placeOf p) a w) a
 
 unfoldable pub lengthAnswers : PlaceWords → Outcome
 lengthAnswers p = either (flags p) (lengthSays (placeOf p)) (outcome 16 0 0 0)
-
--- ---- what a word of 32 bits holds, so that no number is cut short on its way to C
-
-pub record Narrow (p : Place) : Type 0 where
-  pub boards : p .boards < 2 ^ 32
-  pub measure : p .measure < 2 ^ 32
-  pub limit : p .limit < 2 ^ 32
-  pub taken : p .taken .0 < 2 ^ 32
-  pub start : p .start .0 < 2 ^ 32
-  pub boundary : p .boundary .0 < 2 ^ 32
-  pub compositions : p .compositions .0 < 2 ^ 32
-  pub tests : p .tests .0 < 2 ^ 32
-
-pub record NarrowAnswer (o : Outcome) : Type 0 where
-  pub length : o .length < 2 ^ 32
-  pub compositions : o .compositions < 2 ^ 32
-  pub tests : o .tests < 2 ^ 32

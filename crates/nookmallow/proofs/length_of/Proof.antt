@@ -2,7 +2,8 @@
 -- Assumes nothing.
 use mathlib.Core.Path.{sym, ap, _∙_, subst}
 use borrow.Author.Tests.{not-true, not-false}
-use Rattle.nookmallow.specs.Boundary.{answerWords, lengthAnswers, NarrowAnswer}
+use Rattle.crossing.specs.Words.{answerWords, NarrowAnswer}
+use Rattle.nookmallow.specs.Boundary.{lengthAnswers}
 use Rattle.nookmallow.proofs.Bounds.{length-narrow}
 use borrow.Author.Needs.{needs}
 use Rattle.nookmallow.proofs.length_of.Statement.{statement}

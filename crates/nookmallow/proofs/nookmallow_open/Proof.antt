@@ -2,8 +2,9 @@
 -- Assumes nothing.
 use mathlib.Core.Path.{refl, sym, ap, _∙_, subst}
 use Rattle.calls.specs.Answers.{Handed, openingSays}
-use Rattle.nookmallow.specs.Boundary.{Narrow}
-use Rattle.nookmallow.proofs.Bounds.{open-narrow, handed-is}
+use Rattle.crossing.specs.Words.{Narrow}
+use Rattle.crossing.proofs.Fits.{handed-is}
+use Rattle.nookmallow.proofs.Bounds.{open-narrow}
 use borrow.Author.Needs.{needs}
 use Rattle.nookmallow.proofs.nookmallow_open.Statement.{statement}
 use Rattle.nookmallow.proofs.nookmallow_open.Tie as tie

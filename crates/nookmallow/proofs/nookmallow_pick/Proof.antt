@@ -3,8 +3,9 @@
 use mathlib.Core.Path.{refl, sym, ap, _∙_, subst}
 use borrow.Author.Tests.{not-true, not-false}
 use Rattle.calls.specs.Answers.{Handed, takingSays}
-use Rattle.nookmallow.specs.Boundary.{Narrow}
-use Rattle.nookmallow.proofs.Bounds.{pick-narrow, handed-is, picked-is, kept-is, refused-is, flag-refused, flag-kept}
+use Rattle.crossing.specs.Words.{Narrow}
+use Rattle.crossing.proofs.Fits.{handed-is}
+use Rattle.nookmallow.proofs.Bounds.{pick-narrow, picked-is, kept-is, refused-is, flag-refused, flag-kept}
 use borrow.Author.Needs.{needs}
 use Rattle.nookmallow.proofs.nookmallow_pick.Statement.{statement}
 use Rattle.nookmallow.proofs.nookmallow_pick.Tie as tie

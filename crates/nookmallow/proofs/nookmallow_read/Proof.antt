@@ -4,8 +4,8 @@ use mathlib.Core.Path.{sym, ap, _∙_}
 use native.Mathlib.Omega.{arith}
 use Rattle.recording.specs.Answers.{readingSays}
 use Rattle.recording.proofs.Laws.{read-law}
-use Rattle.nookmallow.specs.Boundary.{readingWords}
-use Rattle.nookmallow.proofs.Bounds.{small}
+use Rattle.crossing.specs.Words.{readingWords}
+use Rattle.crossing.proofs.Fits.{small}
 use borrow.Author.Needs.{needs}
 use Rattle.nookmallow.proofs.nookmallow_read.Statement.{statement}
 use Rattle.nookmallow.proofs.nookmallow_read.Tie as tie

@@ -1,7 +1,7 @@
 -- `nookmallow::nookmallow_whole` meets its contract.
 -- Assumes nothing.
 use mathlib.Core.Path.{sym, ap, _∙_, subst}
-use Rattle.nookmallow.specs.Boundary.{answerWords, NarrowAnswer}
+use Rattle.crossing.specs.Words.{answerWords, NarrowAnswer}
 use Rattle.nookmallow.proofs.Bounds.{whole-narrow}
 use borrow.Author.Needs.{needs}
 use Rattle.nookmallow.proofs.nookmallow_whole.Statement.{statement}

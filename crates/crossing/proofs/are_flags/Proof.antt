@@ -1,11 +1,11 @@
--- `nookmallow::are_flags` meets its contract.
+-- `crossing::are_flags` meets its contract.
 -- Assumes nothing.
 use borrow.Author.Tests.{not-true, not-false}
 use mathlib.Core.Path.{sym, _∙_}
 use Rattle.place.proofs.Laws.{and-step, and-stop}
 use borrow.Author.Needs.{needs}
-use Rattle.nookmallow.proofs.are_flags.Statement.{statement}
-use Rattle.nookmallow.proofs.are_flags.Tie as tie
+use Rattle.crossing.proofs.are_flags.Statement.{statement}
+use Rattle.crossing.proofs.are_flags.Tie as tie
 
 is-flag-requires : tie.Need-is-flag-requires
 is-flag-requires c κs = search needs

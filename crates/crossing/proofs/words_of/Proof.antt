@@ -1,9 +1,9 @@
--- `nookmallow::words_of` meets its contract.
+-- `crossing::words_of` meets its contract.
 -- Assumes nothing.
-use Rattle.nookmallow.specs.Boundary.{wordsOf}
+use Rattle.crossing.specs.Words.{wordsOf}
 use borrow.Author.Needs.{needs}
-use Rattle.nookmallow.proofs.words_of.Statement.{statement}
-use Rattle.nookmallow.proofs.words_of.Tie as tie
+use Rattle.crossing.proofs.words_of.Statement.{statement}
+use Rattle.crossing.proofs.words_of.Tie as tie
 
 narrow-requires : tie.Need-narrow-requires
 narrow-requires c κs = search needs

@@ -1,9 +1,9 @@
--- `nookmallow::place_of` meets its contract.
+-- `crossing::place_of` meets its contract.
 -- Assumes nothing.
-use Rattle.nookmallow.specs.Boundary.{placeOf}
+use Rattle.crossing.specs.Words.{placeOf}
 use borrow.Author.Needs.{needs}
-use Rattle.nookmallow.proofs.place_of.Statement.{statement}
-use Rattle.nookmallow.proofs.place_of.Tie as tie
+use Rattle.crossing.proofs.place_of.Statement.{statement}
+use Rattle.crossing.proofs.place_of.Tie as tie
 
 wide-requires : tie.Need-wide-requires
 wide-requires c κs = search needs

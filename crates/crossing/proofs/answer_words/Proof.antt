@@ -1,11 +1,11 @@
--- `nookmallow::answer_words` meets its contract.
+-- `crossing::answer_words` meets its contract.
 -- Assumes nothing.
 use mathlib.Core.Path.{ap, subst}
 use Rattle.calls.specs.Answers.{answerSays}
-use Rattle.nookmallow.specs.Boundary.{NarrowAnswer}
+use Rattle.crossing.specs.Words.{NarrowAnswer}
 use borrow.Author.Needs.{needs}
-use Rattle.nookmallow.proofs.answer_words.Statement.{statement}
-use Rattle.nookmallow.proofs.answer_words.Tie as tie
+use Rattle.crossing.proofs.answer_words.Statement.{statement}
+use Rattle.crossing.proofs.answer_words.Tie as tie
 
 enum-known-a : tie.Need-enum-known-a
 enum-known-a c = search needs

@@ -1,9 +1,9 @@
--- `nookmallow::cause_word` meets its contract. A number of 01 fits a word.
+-- `crossing::cause_word` meets its contract. A number of 01 fits a word.
 -- Assumes nothing.
-use Rattle.nookmallow.proofs.Bounds.{number-small}
+use Rattle.crossing.proofs.Fits.{number-small}
 use borrow.Author.Needs.{needs}
-use Rattle.nookmallow.proofs.cause_word.Statement.{statement}
-use Rattle.nookmallow.proofs.cause_word.Tie as tie
+use Rattle.crossing.proofs.cause_word.Statement.{statement}
+use Rattle.crossing.proofs.cause_word.Tie as tie
 
 number-of-requires : tie.Need-number-of-requires
 number-of-requires c κs = search needs

@@ -1,0 +1,56 @@
+-- Numbers that a word of 32 bits holds, and places that are words again. Assumes nothing.
+use mathlib.Core.Path.{_≡_, refl, ap}
+use mathlib.Core.Bool.{true}
+use Prim.Native.Nat.{ℕ, zero, suc, _≤_, _<_, _^_}
+use native.Mathlib.Nat.{lt-of-le-of-lt}
+use native.Mathlib.Omega.{arith}
+use lib.Dec.{eqb, lit<}
+use borrow.Author.Tests.{leb-true}
+use Rattle.model.specs.declared.Refusal.{Refusal}
+use Rattle.model.specs.declared.Refusal.the-variants.{Boards, Measure, Picks, Room, Forbidden, Unlisted, Full, NoPick, NoLength, Shape, Command, Stopped, Operands, Unchanged, Trailing, BadPlace}
+use Rattle.model.specs.Refusals.{number}
+use Rattle.model.specs.Journey.{val}
+use Rattle.place.specs.declared.Place.{Place}
+use Rattle.place.proofs.Laws.{and-left, and-right}
+use Rattle.calls.specs.Answers.{Handed, handed}
+use Rattle.crossing.specs.declared.PlaceWords.{PlaceWords}
+use Rattle.crossing.specs.Words.{flag, flags, placeOf, wordsOf, handedAs, handedWords}
+
+-- far below what a word holds
+pub small : {x : ℕ} → x ≤ 100000000 → x < 2 ^ 32
+small h = lt-of-le-of-lt h (lit< tt)
+
+pub number-small : (c : Refusal) → number c < 2 ^ 32
+number-small Boards = lit< tt
+number-small Measure = lit< tt
+number-small Picks = lit< tt
+number-small Room = lit< tt
+number-small Forbidden = lit< tt
+number-small Unlisted = lit< tt
+number-small Full = lit< tt
+number-small NoPick = lit< tt
+number-small NoLength = lit< tt
+number-small Shape = lit< tt
+number-small Command = lit< tt
+number-small Stopped = lit< tt
+number-small Operands = lit< tt
+number-small Unchanged = lit< tt
+number-small Trailing = lit< tt
+number-small BadPlace = lit< tt
+
+-- ---- places as words
+
+flag-back : (x : ℕ) → flag x ≡ true → val (eqb x 1) ≡ x
+flag-back zero e = refl
+flag-back (suc zero) e = refl
+flag-back (suc (suc x)) e = let h = leb-true (suc (suc x)) 1 e in absurd (omega arith)
+
+-- ten words are those of the place they stand for
+pub words-back : (p : PlaceWords) → flags p ≡ true → wordsOf (placeOf p) ≡ p
+unfolding placeOf wordsOf
+words-back p e = simp (flag-back (p .failed) (and-left _ _ e), flag-back (p .passed) (and-right (flag (p .failed)) _ e))
+
+-- ---- answers as words, from what a call answered
+
+pub handed-is : {c x : ℕ} {p : Place} {r : PlaceWords} {h : Handed} → x ≡ c → r ≡ wordsOf p → handed c p ≡ h → handedAs x r ≡ handedWords h
+handed-is e f g = rw (e, f) (ap handedWords g)

@@ -1,0 +1,2 @@
+-- Laws of places and answers as words.
+pub mod Fits

@@ -1,0 +1,2 @@
+-- Definitions that the contracts of `crossing` cite.
+pub mod Words
