@@ -36,7 +36,7 @@ fn whole_edge(e: WholeEdge, words: &mut [u32], area: &mut [u32]) -> Outcome {
     run_whole(e.0, e.1, &words[0..lent], &mut area[0..room])
 }
 
-pub fn print_whole_edges(group: &[u8], words: &mut [u32], area: &mut [u32]) {
+fn print_whole_edges(group: &[u8], words: &mut [u32], area: &mut [u32]) {
     let mut t = tallies::NO_CASES;
     for i in 0..40 {
         let e = rows::whole_edge(i);
@@ -68,7 +68,7 @@ fn table_edge(e: TableEdge, words: &mut [u32], out: &mut [u32]) -> Outcome {
     run_table(e.0, &words[0..lent], &mut out[0..room])
 }
 
-pub fn print_table_edges(group: &[u8], words: &mut [u32], out: &mut [u32]) {
+fn print_table_edges(group: &[u8], words: &mut [u32], out: &mut [u32]) {
     let mut t = tallies::NO_CASES;
     for i in 0..24 {
         let e = rows::table_edge(i);
@@ -99,7 +99,7 @@ fn words_of_a(group: &[u8], o: Outcome, first: u32, second: u32) -> Tally {
 }
 
 // The table of reach of A, as 01 states it.
-pub fn print_table_of_a(group: &[u8], out: &mut [u32]) {
+fn print_table_of_a(group: &[u8], out: &mut [u32]) {
     let a = [2u32, 0, 0, 1, 2, 0, 0, 1];
     let o = tallies::tabled(reach::table(2, &a, out));
     let t = words_of_a(group, o, cases::word_at(out, 0), cases::word_at(out, 1));
@@ -142,7 +142,7 @@ fn open_edge(e: OpenEdge, list: &mut [u32], area: &mut [u32]) -> Outcome {
     run_open(e.0, e.1, e.2, &list[0..lent], &mut area[0..room])
 }
 
-pub fn print_open_edges(group: &[u8], list: &mut [u32], area: &mut [u32]) {
+fn print_open_edges(group: &[u8], list: &mut [u32], area: &mut [u32]) {
     let mut t = tallies::NO_CASES;
     for i in 0..36 {
         let e = rows::open_edge(i);
@@ -180,7 +180,7 @@ fn read_edge(e: ReadEdge, out: &mut [u32]) -> Outcome {
     run_read(&bytes[0..lent], e.0, &mut out[0..room])
 }
 
-pub fn print_read_edges(group: &[u8], out: &mut [u32]) {
+fn print_read_edges(group: &[u8], out: &mut [u32]) {
     let mut t = tallies::NO_CASES;
     for i in 0..11 {
         let e = rows::read_edge(i);
@@ -188,4 +188,14 @@ pub fn print_read_edges(group: &[u8], out: &mut [u32]) {
         t = tallies::edge(t, group, i, 0, got, e.3);
     }
     tallies::print_group(group, 0, t);
+}
+
+// ---- the groups
+
+pub fn print_groups(words: &mut [u32], area: &mut [u32]) {
+    print_whole_edges(b"edges-whole", words, area);
+    print_table_edges(b"edges-table", words, area);
+    print_table_of_a(b"table-of-A", area);
+    print_open_edges(b"edges-open", words, area);
+    print_read_edges(b"edges-read", words);
 }

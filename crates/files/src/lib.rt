@@ -179,7 +179,7 @@ fn all(task: Task, group: &[u8], measure: usize, words: &mut [u32], area: &mut [
 }
 
 // A line for each measure.
-pub fn print_measures(group: &[u8], kind: Kind, words: &mut [u32], area: &mut [u32]) {
+fn print_measures(group: &[u8], kind: Kind, words: &mut [u32], area: &mut [u32]) {
     for measure in 1..5 {
         let t = all(Task::Run(kind), group, measure, words, area);
         tallies::print_group(group, measure, t);
@@ -187,7 +187,22 @@ pub fn print_measures(group: &[u8], kind: Kind, words: &mut [u32], area: &mut [u
 }
 
 // One line, for what is not under a measure.
-pub fn print_all(group: &[u8], task: Task, words: &mut [u32], area: &mut [u32]) {
+fn print_all(group: &[u8], task: Task, words: &mut [u32], area: &mut [u32]) {
     let t = all(task, group, 0, words, area);
     tallies::print_group(group, 0, t);
+}
+
+// ---- the groups
+
+fn print_runs(words: &mut [u32], area: &mut [u32]) {
+    print_measures(b"by-hand-whole", Kind::Whole, words, area);
+    print_measures(b"by-hand-picks", Kind::Picks, words, area);
+    print_measures(b"by-hand-counts", Kind::Counts, words, area);
+}
+
+pub fn print_groups(words: &mut [u32], area: &mut [u32]) {
+    print_runs(words, area);
+    print_all(b"by-hand-stated", Task::Stated, words, area);
+    print_all(b"by-hand-tables", Task::Run(Kind::Table), words, area);
+    print_all(b"files-read", Task::Read, words, area);
 }

@@ -46,14 +46,23 @@ fn all(kind: Kind, group: &[u8], measure: usize, words: &mut [u32], area: &mut [
 }
 
 // A line for each measure.
-pub fn print_measures(group: &[u8], kind: Kind, words: &mut [u32], area: &mut [u32]) {
+fn print_measures(group: &[u8], kind: Kind, words: &mut [u32], area: &mut [u32]) {
     for measure in 1..5 {
         let t = all(kind, group, measure, words, area);
         tallies::print_group(group, measure, t);
     }
 }
 
-pub fn print_tables(group: &[u8], words: &mut [u32], area: &mut [u32]) {
+fn print_tables(group: &[u8], words: &mut [u32], area: &mut [u32]) {
     let t = all(Kind::Table, group, 0, words, area);
     tallies::print_group(group, 0, t);
+}
+
+// ---- the groups
+
+pub fn print_groups(words: &mut [u32], area: &mut [u32]) {
+    print_measures(b"generated-whole", Kind::Whole, words, area);
+    print_measures(b"generated-picks", Kind::Picks, words, area);
+    print_measures(b"generated-counts", Kind::Counts, words, area);
+    print_tables(b"generated-tables", words, area);
 }

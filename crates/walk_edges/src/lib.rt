@@ -110,7 +110,7 @@ fn pick_edges(group: &[u8], measure: usize, area: &mut [u32], kept: &mut [u32]) 
 }
 
 // A line for each measure.
-pub fn print_pick_edges(group: &[u8], area: &mut [u32], kept: &mut [u32]) {
+fn print_pick_edges(group: &[u8], area: &mut [u32], kept: &mut [u32]) {
     for measure in 1..5 {
         let t = pick_edges(group, measure, area, kept);
         tallies::print_group(group, measure, t);
@@ -146,7 +146,7 @@ fn place_cases(group: &[u8], i: usize, e: PlaceEdge, p: Place, got: Outcome, t: 
     tallies::compared(sum, group, b"length", case, length, tallies::refused(e.5))
 }
 
-pub fn print_place_edges(group: &[u8], area: &mut [u32], kept: &mut [u32]) {
+fn print_place_edges(group: &[u8], area: &mut [u32], kept: &mut [u32]) {
     let mut t = tallies::NO_CASES;
     for i in 0..42 {
         let e = rows::place_edge(i);
@@ -172,10 +172,18 @@ fn limit_cases(group: &[u8], fresh: Place, full: Place, beyond: Outcome) -> Tall
     tallies::compared(u, group, b"full", case, length, tallies::length(1, 0, 4096))
 }
 
-pub fn print_limit_edges(group: &[u8], area: &mut [u32], kept: &mut [u32]) {
+fn print_limit_edges(group: &[u8], area: &mut [u32], kept: &mut [u32]) {
     let both = [2u32, 1];
     let p = walking::opened(2, 3, 4096, &both, area);
     let q = all_taken(p, area, &both, 4096);
     let t = limit_cases(group, p, q, run_pick(q, area, &both, kept));
     tallies::print_group(group, 0, t);
+}
+
+// ---- the groups
+
+pub fn print_groups(area: &mut [u32], kept: &mut [u32]) {
+    print_pick_edges(b"edges-pick", area, kept);
+    print_place_edges(b"edges-place", area, kept);
+    print_limit_edges(b"edges-limit", area, kept);
 }
