@@ -7,14 +7,15 @@ use native.Mathlib.Omega.{arith}
 use borrow.Author.Tests.{le-leb}
 use mathlib.Core.Bool.{Bool, false}
 use lib.ListN.{length, length-append}
-use Rattle.recording.proofs.Admit.{in-links, admitted-link, admitted-pick}
+use Rattle.commands.proofs.Admit.{in-links, admitted-link, admitted-pick}
 use Rattle.model.specs.declared.Board.{Board}
 use Rattle.model.specs.declared.Refusal.{Refusal}
 use Rattle.model.specs.declared.Refusal.the-variants as cause
-use Rattle.recording.specs.declared.Command.{Command}
-use Rattle.recording.specs.declared.Command.the-variants.{Boards, Link, Pick, End, Not}
-use Rattle.recording.specs.Commands.{refuse, commandAt}
-use Rattle.recording.specs.Format.{Content, ended, refused, flipped, next, follow, commands}
+use Rattle.commands.specs.declared.Command.{Command}
+use Rattle.commands.specs.declared.Command.the-variants.{Boards, Link, Pick, End, Not}
+use Rattle.commands.specs.Commands.{refuse, commandAt}
+use Rattle.commands.specs.Causes.{next}
+use Rattle.recording.specs.Format.{Content, ended, refused, flipped, follow, commands}
 
 -- `whole` is what the reading from a place, after some picks and with these links, comes to
 pub record Along (bytes : List ℕ) (n limit : ℕ) (whole : Content) (at count : ℕ) (links : List ℕ) : Type 0 where

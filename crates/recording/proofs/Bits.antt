@@ -14,7 +14,7 @@ use lib.Seq.{getD-set-same, getD-set-other}
 use Rattle.model.specs.Recording.{bit, link, Clean}
 use Rattle.model.proofs.Logic.{tr}
 use Rattle.recording.specs.Format.{flipped}
-use Rattle.recording.proofs.Admit.{Linkable}
+use Rattle.commands.proofs.Admit.{Linkable}
 
 -- 2 ^ t has bit t only
 pow-bit : (t b : ℕ) → (b ≡ t → ⊥) → 2 ^ t / 2 ^ b % 2 ≡ 0

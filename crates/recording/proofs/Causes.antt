@@ -7,12 +7,13 @@ use lib.ListN.{length, getD}
 use Rattle.model.specs.declared.Refusal.{Refusal}
 use Rattle.model.specs.declared.Refusal.the-variants as cause
 use Rattle.lists.specs.Tab.{zeros}
-use Rattle.recording.specs.declared.Width.{Width}
-use Rattle.recording.specs.declared.Width.the-variants.{Known, Unknown}
-use Rattle.recording.specs.declared.Command.{Command}
-use Rattle.recording.specs.declared.Command.the-variants.{Boards, Link, Pick, End, Not}
-use Rattle.recording.specs.Commands.{refuse, either, commandOf, takenApart, widthOf, commandAt}
-use Rattle.recording.specs.Format.{Content, ended, refused, boardsFit, headAt, admitted, next, follow, commands, opened, recordingAt, unless, alone, readFile}
+use Rattle.commands.specs.declared.Width.{Width}
+use Rattle.commands.specs.declared.Width.the-variants.{Known, Unknown}
+use Rattle.commands.specs.declared.Command.{Command}
+use Rattle.commands.specs.declared.Command.the-variants.{Boards, Link, Pick, End, Not}
+use Rattle.commands.specs.Commands.{refuse, either, commandOf, takenApart, widthOf, commandAt}
+use Rattle.commands.specs.Causes.{boardsFit, headAt, admitted, next}
+use Rattle.recording.specs.Format.{Content, ended, refused, follow, commands, opened, recordingAt, unless, alone, readFile}
 
 abbrev pub ofFile : Refusal → Bool
 ofFile cause.Boards = true

@@ -5,8 +5,9 @@ use Prim.Native.Nat.{ℕ}
 use lib.ListN.{replicate}
 use Rattle.model.specs.Recording.{bit, link}
 use Rattle.lists.specs.Tab.{zeros}
-use Rattle.recording.specs.Commands.{lookup, widthOf, refuse, commandOf, commandAt}
-use Rattle.recording.specs.Format.{ended, flipped, headAt, next, commands, recordingAt, readFile, words, over}
+use Rattle.commands.specs.Commands.{lookup, widthOf, refuse, commandOf, commandAt}
+use Rattle.commands.specs.Causes.{headAt, next}
+use Rattle.recording.specs.Format.{ended, flipped, commands, recordingAt, readFile, words, over}
 use Rattle.recording.specs.Answers.{read, readAt, readSays, readLeaves, readAtSays}
 
 unfoldable pub A : List ℕ

@@ -17,7 +17,7 @@ use Rattle.checks.specs.Lent.{lentPick, lentPicks}
 use Rattle.recording.specs.Format.{Content, ended, refused, unless, alone, recordingAt, readFile, words, over, stored}
 use Rattle.recording.specs.Answers.{Read, read, ReadAt, readAt, fileSays, partSays, partOf, readSays, readLeaves, readAtSays, readAtLeaves}
 use Rattle.recording.specs.Gives.{Gives}
-use Rattle.recording.proofs.Admit.{no}
+use Rattle.commands.proofs.Admit.{no}
 use Rattle.recording.proofs.Sound.{Found, found}
 
 -- ---- the words of picks over the front of the output

@@ -3,9 +3,7 @@ pub mod Laws
 pub mod Causes
 pub mod Inverse
 pub mod Examples
-pub mod Table
 pub mod Others
-pub mod Admit
 pub mod Along
 pub mod Written
 pub mod Bits

@@ -5,20 +5,13 @@ use mathlib.Core.List.{List, [], _∷_}
 use Prim.Native.Nat.{ℕ}
 use denote.Enum.Declared.{tagOf}
 use types.Run.{OneOf, miss}
-use Rattle.recording.proofs.Command as command
 use Rattle.model.specs.declared.Refusal.the-variants as cause
-use Rattle.recording.specs.declared.Command.{Command}
-use Rattle.recording.specs.declared.Command.the-variants.{Boards, Link, Pick, End, Not}
-use Rattle.recording.specs.Format.{boardsFit, admitted, opened, refused, refusalIn}
+use Rattle.commands.proofs.Command as command
+use Rattle.commands.specs.declared.Command.{Command}
+use Rattle.commands.specs.declared.Command.the-variants.{Boards, Link, Pick, End, Not}
+use Rattle.recording.specs.Format.{opened, refused, refusalIn}
 
 -- not `Boards`
-pub head-other : (limit room : ℕ) (x : Command) → OneOf (1 ∷ 2 ∷ 3 ∷ 4 ∷ []) (tagOf command.the-type x) → boardsFit limit room x ≡ x
-head-other limit room (Boards n) k = absurd (miss (1 ∷ 2 ∷ 3 ∷ 4 ∷ []) 0 tt k)
-head-other limit room (Link a b v) k = refl
-head-other limit room Pick k = refl
-head-other limit room End k = refl
-head-other limit room (Not r) k = refl
-
 pub opened-other : (limit : ℕ) (bytes : List ℕ) (start : ℕ) (x : Command) → OneOf (1 ∷ 2 ∷ 3 ∷ 4 ∷ []) (tagOf command.the-type x)
     → opened limit bytes start x ≡ refused (refusalIn x)
 opened-other limit bytes start (Boards n) k = absurd (miss (1 ∷ 2 ∷ 3 ∷ 4 ∷ []) 0 tt k)
@@ -26,15 +19,6 @@ opened-other limit bytes start (Link a b v) k = refl
 opened-other limit bytes start Pick k = refl
 opened-other limit bytes start End k = refl
 opened-other limit bytes start (Not r) k = refl
-
--- neither `Link` nor `Pick`
-pub admit-other : (n limit count : ℕ) (links : List ℕ) (x : Command) → OneOf (0 ∷ 3 ∷ 4 ∷ []) (tagOf command.the-type x)
-    → admitted n limit count links x ≡ x
-admit-other n limit count links (Boards m) k = refl
-admit-other n limit count links (Link a b v) k = absurd (miss (0 ∷ 3 ∷ 4 ∷ []) 1 tt k)
-admit-other n limit count links Pick k = absurd (miss (0 ∷ 3 ∷ 4 ∷ []) 2 tt k)
-admit-other n limit count links End k = refl
-admit-other n limit count links (Not r) k = refl
 
 -- not `Not`
 pub refusal-other : (x : Command) → OneOf (0 ∷ 1 ∷ 2 ∷ 3 ∷ []) (tagOf command.the-type x) → refusalIn x ≡ cause.Command

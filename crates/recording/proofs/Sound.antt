@@ -7,17 +7,18 @@ use Prim.Native.Nat.{ℕ, zero, suc, _+_, _≤_, _<_}
 use native.Mathlib.Omega.{arith}
 use lib.ListN.{length, length-append}
 use Rattle.model.specs.declared.Refusal.{Refusal}
-use Rattle.recording.specs.declared.Command.{Command}
-use Rattle.recording.specs.declared.Command.the-variants.{Boards, Link, Pick, End, Not}
+use Rattle.commands.specs.declared.Command.{Command}
+use Rattle.commands.specs.declared.Command.the-variants.{Boards, Link, Pick, End, Not}
 use Rattle.recording.specs.declared.Part.the-variants as partIs
-use Rattle.recording.specs.Commands.{commandAt}
-use Rattle.recording.specs.Format.{Content, ended, refused, next, headAt, follow, commands, body, opened, recordingAt}
+use Rattle.commands.specs.Commands.{commandAt}
+use Rattle.commands.specs.Causes.{next, headAt}
+use Rattle.recording.specs.Format.{Content, ended, refused, follow, commands, body, opened, recordingAt}
 use Rattle.recording.specs.Answers.{partOf}
 use Rattle.model.specs.Recording.{Clean, Recording}
 use Rattle.model.proofs.Windows.{rec-append}
 use Rattle.lists.specs.Tab.{zeros}
 use Rattle.links.proofs.Bits.{zeros-clean}
-use Rattle.recording.proofs.Admit.{no, linkable, admitted-link, admitted-pick, end-inside, Headed, headed}
+use Rattle.commands.proofs.Admit.{no, linkable, admitted-link, admitted-pick, end-inside, Headed, headed}
 use Rattle.recording.proofs.Bits.{clean-flip}
 
 -- the state on the way

@@ -9,12 +9,13 @@ use denote.Enum.Declared.{tagOf}
 use types.Run.{OneOf, miss}
 use lib.ListN.{length, drop, length-append}
 use lib.Seq.{take-at, drop-at, drop-drop}
-use Rattle.recording.proofs.Command as command
+use Rattle.commands.proofs.Command as command
 use Rattle.recording.proofs.Along.{Along, along-start, along-link, along-pick, along-end, along-boards, along-not, along-stop}
 use Rattle.model.specs.declared.Board.{Board}
-use Rattle.recording.specs.declared.Command.{Command}
-use Rattle.recording.specs.declared.Command.the-variants.{Boards, Link, Pick, End, Not}
-use Rattle.recording.specs.Format.{Content, flipped, next, commands, words, over, putAt, stored, isEnded}
+use Rattle.commands.specs.declared.Command.{Command}
+use Rattle.commands.specs.declared.Command.the-variants.{Boards, Link, Pick, End, Not}
+use Rattle.commands.specs.Causes.{next}
+use Rattle.recording.specs.Format.{Content, flipped, commands, words, over, putAt, stored, isEnded}
 
 pub words-snoc : (ps : List (List ℕ)) (p : List ℕ) → words (ps ++ (p ∷ [])) ≡ words ps ++ p
 unfolding words

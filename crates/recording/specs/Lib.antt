@@ -1,5 +1,4 @@
--- Recording files: the commands, what a file says, and what the calls answer and leave.
-pub mod Commands
+-- Recording files: what a file says, and what the calls answer and leave.
 pub mod Format
 pub mod Answers
 pub mod Gives

@@ -1,25 +1,14 @@
 // A reader of recording files. A file is gone over twice: once to check it all, and once, if nothing refuses it, to write its picks.
 ghost use mathlib.Core.Path.{_≡_};
-ghost use mathlib.Core.Bool.{true, false};
+ghost use mathlib.Core.Bool.{true};
 ghost use mathlib.Core.List.{[]};
 ghost use Prim.Native.Nat.{_+_, _*_, _≤_, _<_};
-ghost use lib.ListN.{length, getD};
-ghost use Rattle.model.specs.Recording.{link};
-ghost use Rattle.lists.specs.Tab.{zeros};
-ghost use Rattle.recording.specs.Commands.{widthOf, misplaced, commandOf, commandAt};
-ghost use Rattle.recording.specs.Format.{flipped, noLink, unchanged, headAt, next as nextOf, commands, refusalIn, recordingAt, body, isEnded, stored, putAt};
+ghost use lib.ListN.{length};
+ghost use Rattle.recording.specs.Format.{flipped, commands, refusalIn, recordingAt, body, isEnded, stored, putAt};
 ghost use Rattle.recording.specs.Answers.{readingSays, partSays, partOf, readSays, readLeaves, readAtSays, readAtLeaves};
+use commands::Command;
 use model::Board;
 use model::Refusal;
-
-// A command taken apart, or why it cannot be. A link opens (true) or shuts (false).
-pub enum Command {
-    Boards(usize),
-    Link(Board, Board, bool),
-    Pick,
-    End,
-    Not(Refusal),
-}
 
 // What stands from a place on: a recording with the place behind its 45, or why there is none.
 pub enum Part {
@@ -37,163 +26,7 @@ pub enum Reading {
     Refused(Refusal),
 }
 
-// ---- a command
-
-// A command byte and how many operand bytes follow it.
-pub struct Shape {
-    pub byte: u8,
-    pub operands: u8,
-}
-
-const COMMANDS: [Shape; 5] = [
-    Shape {
-        byte: 0x42,
-        operands: 1,
-    },
-    Shape {
-        byte: 0x4F,
-        operands: 2,
-    },
-    Shape {
-        byte: 0x53,
-        operands: 2,
-    },
-    Shape {
-        byte: 0x50,
-        operands: 0,
-    },
-    Shape {
-        byte: 0x45,
-        operands: 0,
-    },
-];
-
-pub enum Width {
-    Known(u8),
-    Unknown,
-}
-
-// The operand count of a command byte, by the table.
-fn operands_of(byte: u8) -> Width
-    ensures { λ r. ⌜ r ≡ widthOf byte ⌝ }
-{
-    let mut i: usize = 0;
-    while i < 5 {
-        let shape = COMMANDS[i];
-        if shape.byte == byte {
-            return Width::Known(shape.operands);
-        }
-        i += 1;
-    }
-    Width::Unknown
-}
-
-// Whether a 42 stands elsewhere than first, or another byte stands first.
-fn is_misplaced(byte: u8, first: bool) -> bool
-    ensures { λ r. ⌜ r ≡ misplaced first byte ⌝ }
-{
-    if first { byte != 0x42 } else { byte == 0x42 }
-}
-
-// A known command byte with its operands.
-fn command_of(byte: u8, x: usize, y: usize) -> Command
-    ensures { λ r. ⌜ r ≡ commandOf byte x y ⌝ }
-{
-    if byte == 0x42 {
-        return Command::Boards(x);
-    }
-    if byte == 0x4F {
-        return Command::Link(Board(x), Board(y), true);
-    }
-    if byte == 0x53 {
-        return Command::Link(Board(x), Board(y), false);
-    }
-    if byte == 0x50 {
-        return Command::Pick;
-    }
-    Command::End
-}
-
-// The byte at a place, or 0 past the end.
-fn byte_at(bytes: &[u8], at: usize) -> usize
-    ensures { λ r. ⌜ r ≡ getD (now (bytes .entry)) at 0 ⌝ }
-{
-    if at < bytes.len() {
-        return bytes[at] as usize;
-    }
-    0
-}
-
-// The command at a place of the file.
-fn command_at(bytes: &[u8], at: usize, first: bool) -> Command
-    ensures { λ r. ⌜ r ≡ commandAt first (now (bytes .entry)) at ⌝ }
-{
-    if bytes.len() <= at {
-        return Command::Not(Refusal::Stopped);
-    }
-    let byte = bytes[at];
-    if is_misplaced(byte, first) {
-        return Command::Not(Refusal::Command);
-    }
-    let Width::Known(operands) = operands_of(byte) else {
-        return Command::Not(Refusal::Command);
-    };
-    if bytes.len() < at + 1 + operands as usize {
-        return Command::Not(Refusal::Stopped);
-    }
-    command_of(byte, byte_at(bytes, at + 1), byte_at(bytes, at + 2))
-}
-
-// ---- the causes that go beyond the command itself
-
-// The first command, with the checks of the call and of n; `room` is how many words the output has.
-fn head_at(bytes: &[u8], start: usize, limit: usize, room: usize) -> Command
-    ensures { λ r. ⌜ r ≡ headAt limit room (now (bytes .entry)) start ⌝ }
-{
-    if limit == 0 {
-        return Command::Not(Refusal::Picks);
-    }
-    if 4096 < limit {
-        return Command::Not(Refusal::Picks);
-    }
-    let command = command_at(bytes, start, true);
-    let Command::Boards(n) = command else {
-        return command;
-    };
-    if n < 2 {
-        return Command::Not(Refusal::Boards);
-    }
-    if 32 < n {
-        return Command::Not(Refusal::Boards);
-    }
-    if room < limit * n {
-        return Command::Not(Refusal::Room);
-    }
-    Command::Boards(n)
-}
-
-// Whether link operands are equal, or n or above.
-fn no_link(from: Board, to: Board, n: usize) -> bool
-    ensures { λ r. ⌜ r ≡ noLink n (from .0) (to .0) ⌝ }
-{
-    if from.0 == to.0 {
-        return true;
-    }
-    if n <= from.0 {
-        return true;
-    }
-    n <= to.0
-}
-
-// Whether a command opens an open link or shuts a shut one.
-fn is_unchanged(links: &[u32], from: Board, to: Board, opens: bool) -> bool
-    requires { ⌜ (from .0 < length (now links)) × (to .0 < 32) ⌝ }
-    ensures { λ r. ⌜ r ≡ unchanged opens (link (now (links .entry)) (from .0) (to .0)) ⌝ }
-{
-    let a = from.0;
-    let is_open = links::linked(links[a], to);
-    if opens { is_open } else { !is_open }
-}
+// ---- the two passes over the commands
 
 // Opens a shut link, shuts an open one.
 fn flip(links: &mut [u32], from: Board, to: Board)
@@ -205,34 +38,6 @@ fn flip(links: &mut [u32], from: Board, to: Board)
     links[a] = links[a] ^ (1u32 << b);
 }
 
-// A later command, checked against n, the limit, the picks so far and the open links.
-fn next(bytes: &[u8], at: usize, n: usize, limit: usize, picks: usize, links: &[u32]) -> Command
-    requires { ⌜ (n ≡ length (now links)) × (n ≤ 32) ⌝ }
-    ensures { λ r. ⌜ r ≡ nextOf (now (bytes .entry)) n limit at picks (now (links .entry)) ⌝ }
-{
-    let command = command_at(bytes, at, false);
-    match command {
-        Command::Link(from, to, opens) => {
-            if no_link(from, to, n) {
-                return Command::Not(Refusal::Operands);
-            }
-            if is_unchanged(links, from, to, opens) {
-                return Command::Not(Refusal::Unchanged);
-            }
-            command
-        }
-        Command::Pick => {
-            if limit <= picks {
-                return Command::Not(Refusal::Full);
-            }
-            command
-        }
-        _ => command,
-    }
-}
-
-// ---- the two passes over the commands
-
 // Checks the commands after the first, up to the 45.
 fn scan(bytes: &[u8], start: usize, n: usize, limit: usize, links: &mut [u32]) -> Part
     requires { ⌜ (n ≡ length (now links)) × (n ≤ 32) ⌝ }
@@ -241,7 +46,7 @@ fn scan(bytes: &[u8], start: usize, n: usize, limit: usize, links: &mut [u32]) -
     let mut at = start;
     let mut picks: usize = 0;
     while at < bytes.len() {
-        match next(bytes, at, n, limit, picks, links) {
+        match commands::next(bytes, at, n, limit, picks, links) {
             Command::Link(from, to, _) => {
                 flip(links, from, to);
                 at += 3;
@@ -285,7 +90,7 @@ fn store(bytes: &[u8], start: usize, n: usize, limit: usize, links: &mut [u32], 
     let mut at = start;
     let mut picks: usize = 0;
     while at < bytes.len() {
-        match next(bytes, at, n, limit, picks, links) {
+        match commands::next(bytes, at, n, limit, picks, links) {
             Command::Link(from, to, _) => {
                 flip(links, from, to);
                 at += 3;
@@ -318,7 +123,7 @@ fn refusal_in(command: Command) -> Refusal
 fn examine(bytes: &[u8], start: usize, limit: usize, room: usize) -> Part
     ensures { λ r. ⌜ r ≡ partOf (recordingAt limit room (now (bytes .entry)) start) ⌝ }
 {
-    let head = head_at(bytes, start, limit, room);
+    let head = commands::head_at(bytes, start, limit, room);
     let Command::Boards(n) = head else {
         return Part::Refused(refusal_in(head));
     };

@@ -6,7 +6,7 @@ use native.Mathlib.Omega.{arith}
 use Rattle.lists.proofs.Tab.{length-zeros}
 use Rattle.recording.specs.Format.{recordingAt}
 use Rattle.recording.specs.Answers.{partOf}
-use Rattle.recording.proofs.Admit.{headed}
+use Rattle.commands.proofs.Admit.{headed}
 use Rattle.lists.proofs.Zeros.{lent, lent-length}
 use Rattle.recording.proofs.Others.{opened-other}
 use borrow.Author.Needs.{needs}

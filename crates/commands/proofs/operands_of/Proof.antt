@@ -1,15 +1,15 @@
--- `recording::operands_of` meets its contract: what is left of the table gives the same answer as the whole.
+-- `commands::operands_of` meets its contract: what is left of the table gives the same answer as the whole.
 -- Assumes nothing.
 use mathlib.Core.Path.{_≡_, refl, sym, _∙_}
 use Prim.Native.Nat.{_-_, _≤_}
 use native.Mathlib.Omega.{arith}
 use borrow.Author.Needs.{needs}
 use lib.ListN.{drop}
-use Rattle.recording.proofs.Table.{lookup-hit, lookup-miss, lookup-end}
-use Rattle.recording.specs.declared.Shape.{Shape}
-use Rattle.recording.specs.Commands.{shapes, lookup, widthOf}
-use Rattle.recording.proofs.operands_of.Statement.{statement}
-use Rattle.recording.proofs.operands_of.Tie as tie
+use Rattle.commands.proofs.Table.{lookup-hit, lookup-miss, lookup-end}
+use Rattle.commands.specs.declared.Shape.{Shape}
+use Rattle.commands.specs.Commands.{shapes, lookup, widthOf}
+use Rattle.commands.proofs.operands_of.Statement.{statement}
+use Rattle.commands.proofs.operands_of.Tie as tie
 
 -- what a read past the end would give
 abbrev none : Shape

@@ -9,14 +9,14 @@ use lib.Dec.{eqb, leb}
 use lib.ListN.{length, getD}
 use Rattle.model.specs.declared.Board.{Board}
 use Rattle.model.specs.declared.Refusal.{Refusal}
-use Rattle.recording.specs.declared.Command.{Command}
-use Rattle.recording.specs.declared.Command.the-variants.{Boards, Link, Pick, End, Not}
-use Rattle.recording.specs.declared.Width.{Width}
-use Rattle.recording.specs.declared.Width.the-variants.{Known, Unknown}
-use Rattle.recording.specs.Commands.{refuse, widthOf, takenApart, commandAt, operandsIn}
-use Rattle.recording.proofs.Table.{width-law}
+use Rattle.commands.specs.declared.Command.{Command}
+use Rattle.commands.specs.declared.Command.the-variants.{Boards, Link, Pick, End, Not}
+use Rattle.commands.specs.declared.Width.{Width}
+use Rattle.commands.specs.declared.Width.the-variants.{Known, Unknown}
+use Rattle.commands.specs.Commands.{refuse, widthOf, takenApart, commandAt, operandsIn}
+use Rattle.commands.proofs.Table.{width-law}
 use Rattle.model.specs.Recording.{link}
-use Rattle.recording.specs.Format.{noLink, unchanged, boardsFit, headAt, admitted, next}
+use Rattle.commands.specs.Causes.{noLink, unchanged, boardsFit, headAt, admitted, next}
 
 or-left : (a b : Bool) → (a || b) ≡ false → a ≡ false
 or-left true b e = absurd (true≢false e)

@@ -11,9 +11,9 @@ use native.Mathlib.Omega.{arith}
 use borrow.Author.Tests.{eq-eqb, ne-eqb, eqb-true}
 use lib.Dec.{T, eqb, eqb→eq}
 use Rattle.model.proofs.Logic.{and-l, and-r}
-use Rattle.recording.specs.declared.Shape.{Shape}
-use Rattle.recording.specs.declared.Width.the-variants.{Known, Unknown}
-use Rattle.recording.specs.Commands.{shapes, known, lookup, widthOf, commandOf, operandsIn, isWidth, ruled, everyShape}
+use Rattle.commands.specs.declared.Shape.{Shape}
+use Rattle.commands.specs.declared.Width.the-variants.{Known, Unknown}
+use Rattle.commands.specs.Commands.{shapes, known, lookup, widthOf, commandOf, operandsIn, isWidth, ruled, everyShape}
 
 module _ (ss : List Shape) (i b : ℕ) (d : Shape) (h : i < length ss) where
   pub lookup-hit : getD ss i d .byte ≡ b → lookup (drop i ss) b ≡ Known (getD ss i d .operands)

@@ -1,15 +1,15 @@
--- `recording::head_at` meets its contract. `head-other` answers the other case of the `let .. else`.
+-- `commands::head_at` meets its contract. `head-other` answers the other case of the `let .. else`.
 -- Assumes nothing.
 use mathlib.Core.Path.{sym, _∙_}
 use native.Mathlib.Omega.{arith}
 use native.Mathlib.Nat.{mul-le-mul}
 use borrow.Author.Tests.{lt-ltb, le-ltb, eq-eqb, ne-eqb}
-use Rattle.recording.proofs.Others.{head-other}
-use Rattle.recording.specs.Commands.{refuse}
-use Rattle.recording.specs.Format.{headAt}
+use Rattle.commands.proofs.Others.{head-other}
+use Rattle.commands.specs.Commands.{refuse}
+use Rattle.commands.specs.Causes.{headAt}
 use borrow.Author.Needs.{needs}
-use Rattle.recording.proofs.head_at.Statement.{statement}
-use Rattle.recording.proofs.head_at.Tie as tie
+use Rattle.commands.proofs.head_at.Statement.{statement}
+use Rattle.commands.proofs.head_at.Tie as tie
 
 returns : tie.Need-returns
 unfolding headAt refuse

@@ -1,14 +1,14 @@
--- `recording::next` meets its contract. `admit-other` answers the `_` arm.
+-- `commands::next` meets its contract. `admit-other` answers the `_` arm.
 -- Assumes nothing.
 use mathlib.Core.Path.{sym, _∙_}
 use borrow.Author.Tests.{le-leb, lt-leb}
-use Rattle.recording.proofs.Admit.{in-links}
-use Rattle.recording.proofs.Others.{admit-other}
-use Rattle.recording.specs.Commands.{refuse}
-use Rattle.recording.specs.Format.{next as nextOf}
+use Rattle.commands.proofs.Admit.{in-links}
+use Rattle.commands.proofs.Others.{admit-other}
+use Rattle.commands.specs.Commands.{refuse}
+use Rattle.commands.specs.Causes.{next as nextOf}
 use borrow.Author.Needs.{needs}
-use Rattle.recording.proofs.next.Statement.{statement}
-use Rattle.recording.proofs.next.Tie as tie
+use Rattle.commands.proofs.next.Statement.{statement}
+use Rattle.commands.proofs.next.Tie as tie
 
 command-at-requires : tie.Need-command-at-requires
 command-at-requires c κs = search needs

@@ -1,9 +1,9 @@
--- `recording::is_unchanged` meets its contract.
+-- `commands::is_unchanged` meets its contract.
 -- Assumes nothing.
 use Rattle.model.specs.Recording.{link}
 use borrow.Author.Needs.{needs}
-use Rattle.recording.proofs.is_unchanged.Statement.{statement}
-use Rattle.recording.proofs.is_unchanged.Tie as tie
+use Rattle.commands.proofs.is_unchanged.Statement.{statement}
+use Rattle.commands.proofs.is_unchanged.Tie as tie
 
 mul-linked : tie.Need-mul-linked
 mul-linked c = search needs

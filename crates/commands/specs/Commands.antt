@@ -6,11 +6,11 @@ use lib.Dec.{eqb, ltb, leb}
 use lib.ListN.{length, getD}
 use Rattle.model.specs.declared.Refusal.{Refusal}
 use Rattle.model.specs.declared.Refusal.the-variants as cause
-use Rattle.recording.specs.declared.Shape.{Shape}
-use Rattle.recording.specs.declared.Width.{Width}
-use Rattle.recording.specs.declared.Width.the-variants.{Known, Unknown}
-use Rattle.recording.specs.declared.Command.{Command}
-use Rattle.recording.specs.declared.Command.the-variants.{Boards, Link, Pick, End, Not}
+use Rattle.commands.specs.declared.Shape.{Shape}
+use Rattle.commands.specs.declared.Width.{Width}
+use Rattle.commands.specs.declared.Width.the-variants.{Known, Unknown}
+use Rattle.commands.specs.declared.Command.{Command}
+use Rattle.commands.specs.declared.Command.the-variants.{Boards, Link, Pick, End, Not}
 
 -- command byte and operand count
 abbrev pub shapes : List Shape
