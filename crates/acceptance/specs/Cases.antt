@@ -15,7 +15,8 @@ use Rattle.area.specs.Parts.{part, putPart, composeAt, copyAt, zeroAt, ownAt, z
 use Rattle.place.specs.Places.{fresh, pickTaken, startMoved, turned, charged, tested, between}
 use Rattle.steps.specs.Walk.{ladder, rebuilt, joinedArea, joined, extendedBy, extended, written, entered, windowArea, windowed, judged, tried, cleared, minStep, raisedBy, raised, again, climb, climbed, maxStep, stepped, reported}
 use Rattle.calls.specs.Answers.{Outcome, outcome}
-use Rattle.calls.specs.Calls.{stop, needed, openedArea, wholeVerdict, unions, wholeStart, stepsOf, wholeAfter, wholeReport, wholeSays}
+use Rattle.verdicts.specs.Verdicts.{stop, needed, wholeVerdict}
+use Rattle.calls.specs.Calls.{openedArea, unions, wholeStart, stepsOf, wholeAfter, wholeReport, wholeSays}
 use Rattle.reach.specs.Tables.{tableOf}
 use Rattle.law.specs.Correct.{Passes, Right}
 use Rattle.law.specs.Claim2.{recording}

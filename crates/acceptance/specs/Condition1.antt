@@ -18,10 +18,11 @@ use Rattle.measures.specs.Kit.{either}
 use Rattle.area.specs.Parts.{part}
 use Rattle.place.specs.declared.Place.{Place}
 use Rattle.place.specs.Places.{fresh, nowhere, between, soundPlace}
+use Rattle.verdicts.specs.Verdicts.{stop, needed, openVerdict, pickVerdict, wholeVerdict}
 use Rattle.steps.specs.Walk.{State, reported}
 use Rattle.calls.specs.Answers.{outcome}
-use Rattle.calls.specs.Calls.{stop, needed, openVerdict, openedArea, openSays, openLeaves, pickVerdict, pickSays, pickLeaves, reportSays, lengthSays, wholeVerdict, wholeAfter, wholeReport, wholeSays, wholeLeaves}
-use Rattle.calls.proofs.Verdicts.{refused-state}
+use Rattle.calls.specs.Calls.{openedArea, openSays, openLeaves, pickSays, pickLeaves, reportSays, lengthSays, wholeAfter, wholeReport, wholeSays, wholeLeaves}
+use Rattle.calls.proofs.Taken.{refused-state}
 use Rattle.reach.specs.Tables.{tableVerdict, tableOf, tableLeaves}
 use Rattle.recording.specs.Format.{Content, ended, refused, readFile}
 use Rattle.recording.specs.Answers.{fileSays, readSays, readLeaves}

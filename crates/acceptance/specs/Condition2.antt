@@ -13,7 +13,8 @@ use Rattle.model.specs.Journey.{unlimited, Journey}
 use Rattle.checks.proofs.Lent.{length-lent, lent-recording}
 use Rattle.measures.specs.Kit.{either}
 use Rattle.calls.specs.Answers.{Outcome}
-use Rattle.calls.specs.Calls.{openVerdict, lengthSays, wholeVerdict, wholeSays}
+use Rattle.verdicts.specs.Verdicts.{openVerdict, wholeVerdict}
+use Rattle.calls.specs.Calls.{lengthSays, wholeSays}
 use Rattle.reach.specs.Tables.{tableVerdict, tableOf, tableLeaves}
 use Rattle.reach.proofs.Picks.{table-sound}
 use Rattle.law.specs.Unlimited.{table-marks}

@@ -1,4 +1,4 @@
--- Verdicts read forwards and back, the area as opening leaves it, and the loops of a whole run.
-pub mod Verdicts
+-- The area as opening leaves it, what a pick leaves, and the loops of a whole run.
 pub mod Opened
+pub mod Taken
 pub mod Loops

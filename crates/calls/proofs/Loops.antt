@@ -19,11 +19,13 @@ use Rattle.measures.specs.Kit.{Kit, kit, widthOf, either}
 use Rattle.area.specs.Parts.{zeroed}
 use Rattle.place.specs.declared.Place.{Place}
 use Rattle.place.specs.Places.{fresh, charged}
+use Rattle.verdicts.specs.Verdicts.{needed}
+use Rattle.verdicts.specs.Fit.{Runs}
 use Rattle.steps.specs.Walk.{State, state, kitOf, stepped}
-use Rattle.steps.specs.Fit.{Able, Takes, Ready, Does}
-use Rattle.steps.proofs.Ready.{step-takes, Stepped, stepped-framed, step-leaves}
-use Rattle.calls.specs.Calls.{needed, openedArea, unions, stepsOf, wholeStart, wholeAfter}
-use Rattle.calls.specs.Fit.{Runs, Starts, Ends}
+use Rattle.steps.specs.Fit.{Takes, Ready, Does}
+use Rattle.steps.proofs.Ready.{step-takes, stepped-framed, step-leaves}
+use Rattle.calls.specs.Calls.{openedArea, unions, stepsOf, wholeStart, wholeAfter}
+use Rattle.calls.specs.Fit.{Starts, Ends}
 use Rattle.calls.proofs.Opened.{opened-beyond}
 
 -- ---- the union of the picks

@@ -12,8 +12,9 @@ use Rattle.measures.specs.Kit.{widthOf}
 use Rattle.measures.proofs.Words.{width-links}
 use Rattle.area.specs.Parts.{part, putPart, zeroed}
 use Rattle.area.proofs.Laws.{put-length, put-same, put-other, put-beyond, zeroed-length, zeroed-part, zeroed-beyond}
+use Rattle.verdicts.specs.Verdicts.{needed}
 use Rattle.steps.proofs.Frames.{either-ind}
-use Rattle.calls.specs.Calls.{needed, openedArea}
+use Rattle.calls.specs.Calls.{openedArea}
 
 module _ (n measure limit : ℕ) (footprint a : List ℕ) (room : needed measure n limit ≤ length a) (list : measure ≡ 2 → n ≡ length footprint) where
   abbrev E : ℕ

@@ -8,8 +8,6 @@ use Rattle.calls.specs.declared.Taking.{Taking}
 use Rattle.calls.specs.declared.Taking.the-variants.{Taken, NotTaken}
 use Rattle.calls.specs.declared.Answer.{Answer}
 use Rattle.calls.specs.declared.Answer.the-variants.{Length, Refused}
-use Rattle.calls.specs.declared.Verdict.{Verdict}
-use Rattle.calls.specs.declared.Verdict.the-variants.{Sound, Refuse}
 
 -- the number of the refusal, 0 for none, and the place that is handed back
 pub record Handed : Type 0 where
@@ -43,8 +41,3 @@ takingSays (NotTaken p c) = handed (number c) p
 abbrev pub answerSays : Answer → Outcome
 answerSays (Length k c t) = outcome 0 k (c .0) (t .0)
 answerSays (Refused r c t) = outcome (number r) 0 (c .0) (t .0)
-
--- what the checks of a call find: the number of the first cause, 0 for none
-abbrev pub verdictSays : Verdict → ℕ
-verdictSays Sound = 0
-verdictSays (Refuse c) = number c

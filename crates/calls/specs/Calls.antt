@@ -1,41 +1,23 @@
--- What the calls answer and leave, for every input: opening, pick, length, whole run, with the causes of document 01 in its order. A cause is
--- its number, 0 where there is none.
-use Prim.Native.Nat.{ℕ, zero, suc, _+_, _-_, _*_, _/_, _%_}
-use mathlib.Core.Bool.{Bool, true, false, _&&_, not}
+-- What the calls answer and leave, for every input: opening, pick, length, whole run. A cause is its number, 0 where there is none; `Verdicts` has
+-- those of opening, pick and whole run in their order.
+use Prim.Native.Nat.{ℕ, zero, suc, _+_, _-_, _/_}
+use mathlib.Core.Bool.{not}
 use mathlib.Core.Option.{Option, none, some}
 use mathlib.Core.List.{List}
-use lib.Dec.{eqb, leb, ltb}
+use lib.Dec.{eqb}
 use lib.ListN.{length}
 use Rattle.lists.specs.Tab.{zeros}
 use Rattle.links.specs.Tables.{union}
-use Rattle.checks.specs.Checks.{clean, listed}
-use Rattle.checks.specs.Lent.{lentPick, cleanPicks}
+use Rattle.checks.specs.Lent.{lentPick}
 use Rattle.measures.specs.Kit.{Kit, kit, widthOf, either}
-use Rattle.area.specs.Parts.{part, putPart, zeroed}
+use Rattle.area.specs.Parts.{putPart, zeroed}
 use Rattle.place.specs.declared.Place.{Place}
-use Rattle.place.specs.Places.{fresh, nowhere, charged, between, soundPlace}
+use Rattle.place.specs.Places.{fresh, nowhere, charged, soundPlace}
+use Rattle.verdicts.specs.Verdicts.{needed, openVerdict, pickVerdict, wholeVerdict}
 use Rattle.steps.specs.Walk.{State, state, kitOf, stepped, reported}
 use Rattle.calls.specs.Answers.{Handed, handed, Outcome, outcome}
 
--- refused by c where its test holds, else as v says. Shut, so that the tests can be read back off a verdict.
-unfoldable pub stop : Bool → ℕ → ℕ → ℕ
-stop true c v = c
-stop false c v = v
-
--- the words that the area needs
-abbrev pub needed : ℕ → ℕ → ℕ → ℕ
-needed measure n limit = (limit + 4) * widthOf measure n
-
--- ---- opening: 1, 2, 3, 10, 5, 4; the list of measure 2 is the footprint, and no list is read under the other measures
-
-unfoldable pub openVerdict : ℕ → ℕ → ℕ → List ℕ → List ℕ → ℕ
-openVerdict n measure limit footprint a =
-    stop (not (between 2 n 32)) 1
-    (stop (not (between 1 measure 4)) 2
-    (stop (not (between 1 limit 4096)) 3
-    (stop (eqb measure 2 && not (eqb (length footprint) n)) 10
-    (stop (eqb measure 2 && not (clean n footprint)) 5
-    (stop (ltb (length a) (needed measure n limit)) 4 0)))))
+-- ---- opening
 
 -- the needed words zero, and the footprint of measure 2 in part limit + 3
 unfoldable pub openedArea : ℕ → ℕ → ℕ → List ℕ → List ℕ → List ℕ
@@ -50,16 +32,7 @@ openSays n measure limit footprint a =
 unfoldable pub openLeaves : ℕ → ℕ → ℕ → List ℕ → List ℕ → List ℕ
 openLeaves n measure limit footprint a = either (eqb (openVerdict n measure limit footprint a) 0) (openedArea n measure limit footprint a) a
 
--- ---- pick: 16, 7, 10, 5, 4, 6
-
-unfoldable pub pickVerdict : Place → List ℕ → List ℕ → ℕ
-pickVerdict p a w =
-    stop (not (soundPlace p)) 16
-    (stop (leb (p .limit) (p .taken .0)) 7
-    (stop (not (eqb (length w) (p .boards))) 10
-    (stop (not (clean (p .boards) w)) 5
-    (stop (ltb (length a) (needed (p .measure) (p .boards) (p .limit))) 4
-    (stop (eqb (p .measure) 2 && not (listed (p .boards) (part (p .boards) a (p .limit + 3)) w)) 6 0)))))
+-- ---- pick
 
 -- taken: one step of the walk. Refused: place and area as they were.
 unfoldable pub pickState : Place → List ℕ → List ℕ → State
@@ -81,17 +54,7 @@ reportSays (some k) p = outcome 0 k (p .compositions .0) (p .tests .0)
 unfoldable pub lengthSays : Place → Outcome
 lengthSays p = either (not (soundPlace p)) (outcome 16 0 0 0) (either (eqb (p .taken .0) 0) (outcome 8 0 0 0) (reportSays (reported p) p))
 
--- ---- whole run: 1, 2, 10, 8, 3, 4, 5, then 9; m = length w / n picks are lent
-
-unfoldable pub wholeVerdict : ℕ → ℕ → List ℕ → List ℕ → ℕ
-wholeVerdict n measure w a =
-    stop (not (between 2 n 32)) 1
-    (stop (not (between 1 measure 4)) 2
-    (stop (not (eqb (length w % n) 0)) 10
-    (stop (eqb (length w / n) 0) 8
-    (stop (ltb 4096 (length w / n)) 3
-    (stop (ltb (length a) (needed measure n (length w / n))) 4
-    (stop (not (cleanPicks n w (length w / n))) 5 0))))))
+-- ---- whole run: the causes of its verdict, then 9; m = length w / n picks are lent
 
 -- the union of the first k picks
 unfoldable pub unions : ℕ → List ℕ → ℕ → List ℕ

@@ -1,22 +1,24 @@
 // The calls of the walk: opening, pick, length, whole run. None requires anything.
 ghost use mathlib.Core.Path.{_≡_};
-ghost use Prim.Native.Nat.{_+_, _-_, _*_, _≤_, _<_};
+ghost use Prim.Native.Nat.{_-_, _*_, _≤_};
 ghost use lib.ListN.{length};
-ghost use lib.Dec.{eqb, ltb};
+ghost use lib.Dec.{eqb};
 ghost use Rattle.lists.specs.Tab.{padded};
-ghost use Rattle.checks.specs.Checks.{listed};
 ghost use Rattle.measures.specs.Kit.{either};
-ghost use Rattle.area.specs.Parts.{part, zeroed};
+ghost use Rattle.area.specs.Parts.{zeroed};
 ghost use Rattle.place.specs.Places.{fresh, charged};
+ghost use Rattle.verdicts.specs.Verdicts.{needed};
+ghost use Rattle.verdicts.specs.Fit.{Clears, Runs};
 ghost use Rattle.steps.specs.Walk.{kitOf, reported};
 ghost use Rattle.steps.specs.Fit.{Does};
-ghost use Rattle.calls.specs.Answers.{openingSays, takingSays, answerSays, verdictSays};
-ghost use Rattle.calls.specs.Fit.{Clears, Runs, Starts, Ends};
-ghost use Rattle.calls.specs.Calls.{stop, needed, openVerdict, openedArea, openSays, openLeaves, pickVerdict, pickSays, pickLeaves, reportSays, lengthSays, wholeVerdict, unions, stepsOf, wholeReport, wholeSays, wholeLeaves};
+ghost use Rattle.calls.specs.Answers.{openingSays, takingSays, answerSays};
+ghost use Rattle.calls.specs.Fit.{Starts, Ends};
+ghost use Rattle.calls.specs.Calls.{openedArea, openSays, openLeaves, pickSays, pickLeaves, reportSays, lengthSays, unions, stepsOf, wholeReport, wholeSays, wholeLeaves};
 use model::Compositions;
 use model::Refusal;
 use model::Tests;
 use place::Place;
+use verdicts::Verdict;
 
 // Opening answers the place, or a cause with the place of zeros and noes.
 pub enum Opening {
@@ -42,57 +44,7 @@ pub struct Measured {
     pub answer: Answer,
 }
 
-// What the checks of a call find.
-pub enum Verdict {
-    Sound,
-    Refuse(Refusal),
-}
-
 // ---- opening
-
-// Whether the area is shorter than needed: cause 4.
-fn is_short(area: &[u32], measure: usize, n: usize, limit: usize) -> bool
-    requires { ⌜ (n ≤ 32) × (limit ≤ 4096) ⌝ }
-    ensures { λ r. ⌜ r ≡ ltb (length (now (area .entry))) (needed measure n limit) ⌝ }
-{
-    let e = measures::width(measure, n);
-    area.len() < (limit + 4) * e
-}
-
-fn room_verdict(area: &[u32], measure: usize, n: usize, limit: usize) -> Verdict
-    requires { ⌜ (n ≤ 32) × (limit ≤ 4096) ⌝ }
-    ensures { λ r. ⌜ verdictSays r ≡ stop (ltb (length (now (area .entry))) (needed measure n limit)) 4 0 ⌝ }
-{
-    if is_short(area, measure, n, limit) {
-        return Verdict::Refuse(Refusal::Room);
-    }
-    Verdict::Sound
-}
-
-// The causes of an opening, in their order: 1, 2, 3, 10, 5, 4. Only measure 2 has a footprint.
-fn open_verdict(n: usize, measure: usize, limit: usize, footprint: &[u32], area: &[u32]) -> Verdict
-    ensures { λ r. ⌜ verdictSays r ≡ openVerdict n measure limit (now (footprint .entry)) (now (area .entry)) ⌝ }
-{
-    if !place::is_between(2, n, 32) {
-        return Verdict::Refuse(Refusal::Boards);
-    }
-    if !place::is_between(1, measure, 4) {
-        return Verdict::Refuse(Refusal::Measure);
-    }
-    if !place::is_between(1, limit, 4096) {
-        return Verdict::Refuse(Refusal::Picks);
-    }
-    if measure != 2 {
-        return room_verdict(area, measure, n, limit);
-    }
-    if footprint.len() != n {
-        return Verdict::Refuse(Refusal::Shape);
-    }
-    if !checks::is_clean(footprint, n) {
-        return Verdict::Refuse(Refusal::Forbidden);
-    }
-    room_verdict(area, measure, n, limit)
-}
 
 // The needed words zero, and the footprint of measure 2 in part limit + 3.
 fn open_area(n: usize, measure: usize, limit: usize, footprint: &[u32], area: &mut [u32])
@@ -111,7 +63,7 @@ fn open_area(n: usize, measure: usize, limit: usize, footprint: &[u32], area: &m
 pub fn open(n: usize, measure: usize, limit: usize, footprint: &[u32], area: &mut [u32]) -> Opening
     ensures { λ r. ⌜ (openingSays r ≡ openSays n measure limit (now (footprint .entry)) (now (area .entry))) × (now (area .exit) ≡ openLeaves n measure limit (now (footprint .entry)) (now (area .entry))) ⌝ }
 {
-    match open_verdict(n, measure, limit, footprint, area) {
+    match verdicts::open_verdict(n, measure, limit, footprint, area) {
         Verdict::Sound => {
             open_area(n, measure, limit, footprint, area);
             Opening::Opened(Place::open(measure, n, limit))
@@ -122,51 +74,11 @@ pub fn open(n: usize, measure: usize, limit: usize, footprint: &[u32], area: &mu
 
 // ---- pick
 
-// Whether the footprint in part limit + 3 has every link of a pick.
-fn is_listed(area: &[u32], words: &[u32], n: usize, limit: usize) -> bool
-    requires { ⌜ (n ≤ 32) × ((limit ≤ 4096) × ((n ≡ length (now words)) × ((limit + 4) * n ≤ length (now area)))) ⌝ }
-    ensures { λ r. ⌜ r ≡ listed n (part n (now (area .entry)) (limit + 3)) (now (words .entry)) ⌝ }
-{
-    let at = (limit + 2) * n;
-    checks::is_listed(&area[at..at + n], words, n)
-}
-
-// The causes of a pick, in their order: 16, 7, 10, 5, 4, 6.
-fn pick_verdict(p: Place, area: &[u32], words: &[u32]) -> Verdict
-    ensures { λ r. ⌜ verdictSays r ≡ pickVerdict p (now (area .entry)) (now (words .entry)) ⌝ }
-{
-    let n = p.boards;
-    let limit = p.limit;
-    let measure = p.measure;
-    if !p.is_sound() {
-        return Verdict::Refuse(Refusal::BadPlace);
-    }
-    if limit <= p.taken.0 {
-        return Verdict::Refuse(Refusal::Full);
-    }
-    if words.len() != n {
-        return Verdict::Refuse(Refusal::Shape);
-    }
-    if !checks::is_clean(words, n) {
-        return Verdict::Refuse(Refusal::Forbidden);
-    }
-    if is_short(area, measure, n, limit) {
-        return Verdict::Refuse(Refusal::Room);
-    }
-    if measure != 2 {
-        return Verdict::Sound;
-    }
-    if !is_listed(area, words, n, limit) {
-        return Verdict::Refuse(Refusal::Unlisted);
-    }
-    Verdict::Sound
-}
-
 // Takes a pick: one step of the walk.
 pub fn pick(p: Place, area: &mut [u32], words: &[u32]) -> Taking
     ensures { λ r. ⌜ (takingSays r ≡ pickSays p (now (area .entry)) (now (words .entry))) × (now (area .exit) ≡ pickLeaves p (now (area .entry)) (now (words .entry))) ⌝ }
 {
-    match pick_verdict(p, area, words) {
+    match verdicts::pick_verdict(p, area, words) {
         Verdict::Sound => Taking::Taken(steps::step(p, area, words)),
         Verdict::Refuse(c) => Taking::NotTaken(p, c),
     }
@@ -219,35 +131,6 @@ pub fn length(p: Place) -> Measured
 }
 
 // ---- whole run
-
-// The causes of a whole run, in their order: 1, 2, 10, 8, 3, 4, 5.
-fn whole_verdict(n: usize, measure: usize, words: &[u32], area: &[u32]) -> Verdict
-    ensures { λ r. ⌜ verdictSays r ≡ wholeVerdict n measure (now (words .entry)) (now (area .entry)) ⌝ }
-{
-    if !place::is_between(2, n, 32) {
-        return Verdict::Refuse(Refusal::Boards);
-    }
-    if !place::is_between(1, measure, 4) {
-        return Verdict::Refuse(Refusal::Measure);
-    }
-    if words.len() % n != 0 {
-        return Verdict::Refuse(Refusal::Shape);
-    }
-    let m = words.len() / n;
-    if m == 0 {
-        return Verdict::Refuse(Refusal::NoPick);
-    }
-    if 4096 < m {
-        return Verdict::Refuse(Refusal::Picks);
-    }
-    if is_short(area, measure, n, m) {
-        return Verdict::Refuse(Refusal::Room);
-    }
-    if !checks::are_clean(words, n, m) {
-        return Verdict::Refuse(Refusal::Forbidden);
-    }
-    Verdict::Sound
-}
 
 // The union of m picks, by value, and zeros up to 32.
 fn union_of(words: &[u32], n: usize, m: usize) -> [u32; 32]
@@ -318,7 +201,7 @@ fn whole_run(n: usize, measure: usize, words: &[u32], m: usize, area: &mut [u32]
 pub fn whole(n: usize, measure: usize, words: &[u32], area: &mut [u32]) -> Answer
     ensures { λ r. ⌜ (answerSays r ≡ wholeSays n measure (now (words .entry)) (now (area .entry))) × (now (area .exit) ≡ wholeLeaves n measure (now (words .entry)) (now (area .entry))) ⌝ }
 {
-    match whole_verdict(n, measure, words, area) {
+    match verdicts::whole_verdict(n, measure, words, area) {
         Verdict::Sound => {
             let m = words.len() / n;
             whole_run(n, measure, words, m, area)

@@ -13,7 +13,8 @@ use Rattle.place.specs.declared.Place.{Place}
 use Rattle.place.specs.Places.{Sound}
 use Rattle.steps.specs.Walk.{State, state}
 use Rattle.calls.specs.Answers.{Outcome}
-use Rattle.calls.specs.Calls.{openSays, openLeaves, pickVerdict, pickState, lengthSays, unions}
+use Rattle.verdicts.specs.Verdicts.{pickVerdict}
+use Rattle.calls.specs.Calls.{openSays, openLeaves, pickState, lengthSays, unions}
 use Rattle.law.specs.Correct.{Passes, Right, Counted}
 use Rattle.law.specs.Measures.{Fits}
 

@@ -21,9 +21,10 @@ use Rattle.checks.specs.Lent.{lentPicks, cleanPicks}
 use Rattle.checks.proofs.Lent.{length-lent, lent-recording}
 use Rattle.measures.specs.Kit.{either}
 use Rattle.place.specs.Places.{between}
+use Rattle.verdicts.specs.Verdicts.{stop, needed, wholeVerdict}
+use Rattle.verdicts.proofs.Verdicts.{stop-step}
 use Rattle.calls.specs.Answers.{Outcome, outcome}
-use Rattle.calls.specs.Calls.{stop, needed, wholeVerdict, wholeReport, wholeSays}
-use Rattle.calls.proofs.Verdicts.{stop-step}
+use Rattle.calls.specs.Calls.{wholeReport, wholeSays}
 use Rattle.reach.specs.Tables.{tableVerdict, tableOf, tableLeaves}
 use Rattle.law.specs.Claim3.{Lent, SameWritten, Between, RunsNeverApart}
 use Rattle.law.specs.Condition3.{SameTables, Around, NeverApart, HasReach, NoReach}

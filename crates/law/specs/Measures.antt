@@ -4,7 +4,7 @@ use mathlib.Core.Path.{_≡_, refl, sym, _∙_, subst}
 use mathlib.Core.Bool.{not}
 use mathlib.Core.Option.{Option, none, some}
 use mathlib.Core.List.{List}
-use Prim.Native.Nat.{ℕ, zero, suc, _-_, _≤_}
+use Prim.Native.Nat.{ℕ, zero, suc, _≤_}
 use native.Mathlib.Omega.{arith}
 use lib.Dec.{T, eqb}
 use lib.ListN.{length}
@@ -22,7 +22,8 @@ use Rattle.measures.specs.Kit.{Kit, kit}
 use Rattle.place.specs.declared.Place.{Place}
 use Rattle.place.specs.Places.{Sound}
 use Rattle.steps.specs.Walk.{State, reported}
-use Rattle.calls.specs.Calls.{needed, reportSays}
+use Rattle.verdicts.specs.Verdicts.{needed}
+use Rattle.calls.specs.Calls.{reportSays}
 use Rattle.law.specs.Faithful.{Faithful, windowTable}
 use Rattle.law.specs.Kits.{Tested, common-faithful, common-tested, footprint-faithful, footprint-tested, reach-kit, reach-tested, round-faithful, round-tested, round-upward}
 use Rattle.law.specs.Unlimited.{reach-agree, round-agree}

@@ -4,7 +4,7 @@ use mathlib.Core.Path.{_≡_, refl, sym, ap, ap₂, _∙_, subst}
 use mathlib.Core.Logic.{inr, _↔_}
 use mathlib.Core.Bool.{Bool, not}
 use mathlib.Core.List.{List, [], _∷_, _++_}
-use Prim.Native.Nat.{ℕ, zero, suc, _+_, _-_, _*_, _≤_, zero-le}
+use Prim.Native.Nat.{ℕ, zero, suc, _+_, _*_, _≤_, zero-le}
 use native.Mathlib.Nat.{le-refl, le-of-suc-le-suc}
 use native.Mathlib.Omega.{arith}
 use lib.Dec.{T, eqb, eqb→eq}
@@ -21,14 +21,16 @@ use Rattle.area.proofs.Laws.{kit-wide, own-wide}
 use Rattle.place.specs.declared.Place.{Place}
 use Rattle.place.specs.Places.{Sound, fresh, nowhere, charged}
 use Rattle.place.proofs.Laws.{sound-in}
+use Rattle.verdicts.specs.Verdicts.{needed, openVerdict, pickVerdict}
+use Rattle.verdicts.proofs.Verdicts.{open-sound, pick-sound}
 use Rattle.steps.specs.Walk.{State, state, kitOf, stepped, reported}
-use Rattle.calls.specs.Answers.{outcome}
-use Rattle.calls.specs.Calls.{needed, openVerdict, openedArea, openSays, openLeaves, pickVerdict, reportSays, lengthSays}
-use Rattle.calls.proofs.Verdicts.{open-sound, pick-sound, taken-state, refused-state}
 use Rattle.steps.proofs.Frames.{stepped-frame}
+use Rattle.calls.specs.Answers.{outcome}
+use Rattle.calls.specs.Calls.{openedArea, openSays, openLeaves, reportSays, lengthSays}
+use Rattle.calls.proofs.Taken.{taken-state, refused-state}
+use Rattle.calls.proofs.Opened.{opened-list}
 use Rattle.law.specs.Faithful.{windowTable}
 use Rattle.law.specs.Runs.{stepped-kept, walked, walked-kept}
-use Rattle.calls.proofs.Opened.{opened-list}
 use Rattle.law.specs.Opened.{start}
 use Rattle.law.specs.Correct.{Passes, Right, Counted}
 use Rattle.law.specs.Claim2.{picked, after, Taken, opened, Walked}

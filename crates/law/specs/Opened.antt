@@ -1,7 +1,7 @@
 -- The state that a walk starts from: the fresh place and the area as opening leaves it. Assumes nothing.
 use mathlib.Core.Path.{_≡_, refl}
 use mathlib.Core.List.{List}
-use Prim.Native.Nat.{ℕ, _+_, _-_, _≤_}
+use Prim.Native.Nat.{ℕ, _+_, _≤_}
 use native.Mathlib.Nat.{le-refl}
 use native.Mathlib.Omega.{arith}
 use lib.ListN.{length}
@@ -9,7 +9,8 @@ use Rattle.measures.specs.Kit.{kit, widthOf}
 use Rattle.area.specs.Parts.{part}
 use Rattle.place.specs.Places.{fresh, charged}
 use Rattle.steps.specs.Walk.{State, state}
-use Rattle.calls.specs.Calls.{needed, openedArea}
+use Rattle.verdicts.specs.Verdicts.{needed}
+use Rattle.calls.specs.Calls.{openedArea}
 use Rattle.calls.proofs.Opened.{opened-length, opened-part}
 use Rattle.law.specs.Ladders.{Laddered}
 use Rattle.law.specs.MinWalk.{Stands}

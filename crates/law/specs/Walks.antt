@@ -15,7 +15,7 @@ use Rattle.model.proofs.Logic.{eq-refl, T→≡, F→≡}
 use Rattle.measures.specs.Kit.{Kit, kit, either}
 use Rattle.place.specs.Places.{Sound, fresh, charged}
 use Rattle.steps.specs.Walk.{State, minStep, maxStep, stepped, reported}
-use Rattle.calls.specs.Calls.{needed}
+use Rattle.verdicts.specs.Verdicts.{needed}
 use Rattle.law.specs.Faithful.{Faithful, windowTable, window-tells}
 use Rattle.law.specs.Kits.{Tested}
 use Rattle.law.specs.MinWalk.{MinAnswer, Stands, min-stands, min-right, min-counts}

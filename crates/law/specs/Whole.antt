@@ -1,10 +1,10 @@
 -- CONDITION 2 for whole runs, over the call: any recording lent as words, any area that is long enough, whatever it held. Under measure 2 the
 -- union of all picks is the footprint, at m - 1 compositions more. Assumes nothing.
 use mathlib.Core.Path.{_≡_, refl, sym, ap, _∙_, subst}
-use mathlib.Core.Logic.{_↔_, _⊎_, ⊎-elim}
+use mathlib.Core.Logic.{_↔_, ⊎-elim}
 use mathlib.Core.Bool.{Bool}
 use mathlib.Core.List.{List}
-use Prim.Native.Nat.{ℕ, zero, suc, _-_, _*_, _/_, _≤_, _<_}
+use Prim.Native.Nat.{ℕ, zero, suc, _*_, _/_, _≤_, _<_}
 use native.Mathlib.Nat.{le-refl, eq-or-lt-of-le}
 use native.Mathlib.Omega.{arith}
 use lib.Dec.{T, eqb, eqb→eq}
@@ -22,10 +22,11 @@ use Rattle.checks.specs.Lent.{lentPick, lentPicks, cleanPicks}
 use Rattle.checks.proofs.Lent.{length-lent, lent-recording, lent-at}
 use Rattle.measures.specs.Kit.{kit, either}
 use Rattle.area.specs.Parts.{zeroed}
+use Rattle.verdicts.specs.Verdicts.{needed, wholeVerdict}
+use Rattle.verdicts.proofs.Verdicts.{whole-sound}
 use Rattle.steps.specs.Walk.{State, stepped, reported}
 use Rattle.calls.specs.Answers.{outcome}
-use Rattle.calls.specs.Calls.{needed, wholeVerdict, unions, stepsOf, wholeStart, wholeAfter, wholeReport, wholeSays, wholeLeaves, reportSays}
-use Rattle.calls.proofs.Verdicts.{whole-sound}
+use Rattle.calls.specs.Calls.{unions, stepsOf, wholeStart, wholeAfter, wholeReport, wholeSays, wholeLeaves, reportSays}
 use Rattle.calls.proofs.Loops.{length-unions}
 use Rattle.law.specs.Runs.{walked}
 use Rattle.law.specs.Opened.{start}

@@ -8,3 +8,4 @@ pub mod Hops
 pub mod Windows
 pub mod Lengths
 pub mod Monotone
+pub mod Refusals

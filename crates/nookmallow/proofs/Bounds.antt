@@ -11,19 +11,23 @@ use lib.Dec.{eqb, eqb→eq, ltb, lit<}
 use lib.ListN.{length}
 use Rattle.model.specs.declared.Refusal.{Refusal}
 use Rattle.model.specs.Refusals.{number}
+use Rattle.model.proofs.Refusals.{number-some}
 use Rattle.checks.specs.Lent.{lentPick}
 use Rattle.measures.specs.Kit.{Kit, kit, either}
 use Rattle.place.specs.declared.Place.{Place}
 use Rattle.place.specs.Places.{fresh, nowhere, charged, soundPlace, Sound}
 use Rattle.place.proofs.Laws.{sound-says}
+use Rattle.verdicts.specs.Verdicts.{openVerdict, pickVerdict, wholeVerdict}
+use Rattle.verdicts.specs.Fit.{Runs}
+use Rattle.verdicts.proofs.Verdicts.{open-sound, pick-sound, whole-sound}
 use Rattle.steps.specs.Walk.{State, kitOf, stepped, reported}
 use Rattle.steps.proofs.Ready.{Stepped, stepped-grown, sound-ready}
-use Rattle.calls.specs.Answers.{Handed, handed, outcome}
-use Rattle.calls.specs.Calls.{openVerdict, openSays, pickVerdict, pickSays, pickLeaves, reportSays, lengthSays, wholeVerdict, unions, stepsOf, wholeStart, wholeAfter, wholeReport, wholeSays}
-use Rattle.calls.specs.Fit.{Runs, Starts}
-use Rattle.calls.proofs.Verdicts.{open-sound, pick-sound, whole-sound, taken-state, refused-state, number-some}
-use Rattle.calls.proofs.Opened.{opened-length}
 use Rattle.steps.proofs.Frames.{either-ind}
+use Rattle.calls.specs.Answers.{Handed, handed, outcome}
+use Rattle.calls.specs.Calls.{openSays, pickSays, pickLeaves, reportSays, lengthSays, unions, stepsOf, wholeStart, wholeAfter, wholeReport, wholeSays}
+use Rattle.calls.specs.Fit.{Starts}
+use Rattle.calls.proofs.Taken.{taken-state, refused-state}
+use Rattle.calls.proofs.Opened.{opened-length}
 use Rattle.calls.proofs.Loops.{Along, along-start, along-turn, whole-starts, list-cost, length-unions}
 use Rattle.crossing.specs.declared.PlaceWords.{PlaceWords}
 use Rattle.crossing.specs.declared.HandedWords.{HandedWords}

@@ -1,25 +1,24 @@
 -- The table of reach, pick by pick, and what a verdict says. Assumes nothing.
 use mathlib.Core.Path.{_≡_, refl, sym, ap, ap₂, _∙_}
-use mathlib.Core.Bool.{Bool, not}
+use mathlib.Core.Bool.{not}
 use mathlib.Core.List.{List, [], _∷_, _++_}
-use Prim.Native.Nat.{ℕ, zero, suc, _+_, _-_, _*_, _/_, _%_, _≤_, _<_}
-use native.Mathlib.Nat.{sub-zero, div-add-mod', zero-mul, one-mul, mul-le-mul-right}
+use Prim.Native.Nat.{ℕ, zero, suc, _+_, _-_, _*_, _/_, _%_, _≤_}
+use native.Mathlib.Nat.{sub-zero, div-add-mod', zero-mul}
 use native.Mathlib.Numerals.{add-one}
 use native.Mathlib.Omega.{arith}
 use lib.Dec.{T, eqb, eqb→eq, ltb}
 use lib.ListN.{length, take, drop}
 use lib.Seq.{length-take-le}
 use Rattle.model.proofs.Logic.{tr, eq-refl}
-use Rattle.links.specs.Tables.{compose, composeRow, within}
-use Rattle.links.specs.Composed.{composedFrom, composed, reach}
-use Rattle.links.proofs.Ways.{length-within}
 use Rattle.lists.specs.Tab.{padded}
 use Rattle.lists.proofs.Tab.{take-padded}
-use Rattle.checks.proofs.Lent.{length-lent}
+use Rattle.links.specs.Tables.{compose, within}
+use Rattle.links.specs.Composed.{composedFrom, composed, reach}
 use Rattle.checks.specs.Lent.{lentPick, lentPicks, cleanPicks}
+use Rattle.checks.proofs.Lent.{length-lent}
 use Rattle.place.specs.Places.{between}
-use Rattle.calls.specs.Calls.{stop}
-use Rattle.calls.proofs.Verdicts.{stop-out, between-says, holds-by, true-of, not-short}
+use Rattle.verdicts.specs.Verdicts.{stop}
+use Rattle.verdicts.proofs.Verdicts.{stop-out, between-says, holds-by, true-of, not-short}
 use Rattle.reach.specs.Tables.{tableVerdict}
 
 from-snoc : (n h i : ℕ) (t : List ℕ) (ps : List (List ℕ)) (p : List ℕ)

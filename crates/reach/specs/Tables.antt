@@ -9,7 +9,7 @@ use Rattle.links.specs.Composed.{reach}
 use Rattle.checks.specs.Lent.{lentPicks, cleanPicks}
 use Rattle.measures.specs.Kit.{either}
 use Rattle.place.specs.Places.{between}
-use Rattle.calls.specs.Calls.{stop}
+use Rattle.verdicts.specs.Verdicts.{stop}
 use Rattle.reach.specs.declared.Tabled.{Tabled}
 use Rattle.reach.specs.declared.Tabled.the-variants.{Written, Refused}
 

@@ -5,10 +5,10 @@ ghost use lib.ListN.{length};
 ghost use Rattle.links.specs.Tables.{compose, within};
 ghost use Rattle.links.specs.Composed.{reach};
 ghost use Rattle.checks.specs.Lent.{lentPicks};
-ghost use Rattle.calls.specs.Answers.{verdictSays};
+ghost use Rattle.verdicts.specs.Verdicts.{verdictSays};
 ghost use Rattle.reach.specs.Tables.{tableSays, tableVerdict, tableLeaves};
-use calls::Verdict;
 use model::Refusal;
+use verdicts::Verdict;
 
 // The table was written, or why not.
 pub enum Tabled {

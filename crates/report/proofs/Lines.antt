@@ -1,7 +1,7 @@
 -- The lines of the measures, written one behind the other. Assumes nothing.
-use mathlib.Core.Path.{_≡_, refl, sym, ap, _∙_}
+use mathlib.Core.Path.{_≡_, refl, sym, _∙_}
 use mathlib.Core.List.{List, [], _++_}
-use Prim.Native.Nat.{ℕ, zero, suc, _+_, _-_, _*_, _≤_, _<_, zero-le}
+use Prim.Native.Nat.{ℕ, zero, _+_, _-_, _*_, _≤_, _<_, zero-le}
 use native.Mathlib.Nat.{sub-zero}
 use native.Mathlib.Numerals.{add-one}
 use native.Mathlib.Omega.{arith}
@@ -11,9 +11,9 @@ use Rattle.columns.specs.Text.{Put, line5}
 use Rattle.columns.specs.declared.Cell.the-variants.{Number, Dash, File}
 use Rattle.model.specs.Refusals.{number}
 use Rattle.model.specs.declared.Refusal.{Refusal}
+use Rattle.model.proofs.Refusals.{number-some}
 use Rattle.lists.specs.Tab.{zeros}
 use Rattle.recording.specs.Answers.{read, readSays, readLeaves}
-use Rattle.calls.proofs.Verdicts.{number-some}
 use Rattle.calls.specs.Answers.{Outcome}
 use Rattle.report.specs.Report.{header, rowOf, lineOf, linesOf, underHeader, reportOf}
 

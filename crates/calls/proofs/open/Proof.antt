@@ -1,9 +1,10 @@
 -- `calls::open` meets its contract: the verdict, and the effect where nothing refuses.
 -- Assumes nothing.
-use Rattle.calls.proofs.Verdicts.{open-sound, open-clears, number-some}
-use mathlib.Core.Path.{_≡_, sym, ap, _∙_}
+use mathlib.Core.Path.{sym, ap, _∙_}
+use Rattle.model.proofs.Refusals.{number-some}
 use Rattle.place.specs.Places.{nowhere}
-use Rattle.calls.specs.Answers.{verdictSays}
+use Rattle.verdicts.specs.Verdicts.{verdictSays}
+use Rattle.verdicts.proofs.Verdicts.{open-sound, open-clears}
 use Rattle.calls.specs.Calls.{openSays, openLeaves}
 use borrow.Author.Needs.{needs}
 use Rattle.calls.proofs.open.Statement.{statement}

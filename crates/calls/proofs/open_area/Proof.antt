@@ -1,11 +1,9 @@
 -- `calls::open_area` meets its contract.
 -- Assumes nothing.
-use Rattle.calls.proofs.Verdicts.{needed-most, third-fits, footprint-fills}
-use mathlib.Core.Path.{_≡_, sym, _∙_}
+use mathlib.Core.Path.{_∙_}
 use native.Mathlib.Omega.{arith}
 use borrow.Author.Tests.{eq-eqb, ne-eqb}
-use Rattle.measures.proofs.Words.{width-links}
-use Rattle.area.proofs.Laws.{zeroed-length}
+use Rattle.verdicts.proofs.Verdicts.{needed-most, third-fits, footprint-fills}
 use Rattle.calls.specs.Calls.{openedArea}
 use borrow.Author.Needs.{needs}
 use Rattle.calls.proofs.open_area.Statement.{statement}

@@ -1,13 +1,14 @@
 -- `calls::pick` meets its contract: the verdict, and the step where nothing refuses.
 -- Assumes nothing.
-use Rattle.steps.specs.Walk.{State}
-use Rattle.calls.proofs.Verdicts.{pick-sound, number-some, taken-state, refused-state}
-use Rattle.calls.specs.Answers.{verdictSays, handed}
 use Prim.Native.Nat.{ℕ}
 use lib.Dec.{eqb}
-use mathlib.Core.Path.{_≡_, sym, ap, _∙_}
-use Rattle.calls.specs.Calls.{pickState}
+use mathlib.Core.Path.{sym, ap, _∙_}
+use Rattle.model.proofs.Refusals.{number-some}
+use Rattle.verdicts.specs.Verdicts.{verdictSays}
+use Rattle.verdicts.proofs.Verdicts.{pick-sound}
+use Rattle.steps.specs.Walk.{State}
 use Rattle.steps.proofs.Ready.{sound-takes}
+use Rattle.calls.proofs.Taken.{taken-state, refused-state}
 use borrow.Author.Needs.{needs}
 use Rattle.calls.proofs.pick.Statement.{statement}
 use Rattle.calls.proofs.pick.Tie as tie

@@ -1,10 +1,11 @@
 -- `calls::whole` meets its contract: the verdict, and the run where nothing refuses.
 -- Assumes nothing.
-use mathlib.Core.Path.{_≡_, sym, ap, _∙_}
+use mathlib.Core.Path.{sym, ap, _∙_}
 use native.Mathlib.Omega.{arith}
-use Rattle.calls.specs.Answers.{verdictSays}
+use Rattle.model.proofs.Refusals.{number-some}
+use Rattle.verdicts.specs.Verdicts.{verdictSays}
+use Rattle.verdicts.proofs.Verdicts.{whole-sound}
 use Rattle.calls.specs.Calls.{wholeSays, wholeLeaves}
-use Rattle.calls.proofs.Verdicts.{whole-sound, number-some}
 use borrow.Author.Needs.{needs}
 use Rattle.calls.proofs.whole.Statement.{statement}
 use Rattle.calls.proofs.whole.Tie as tie

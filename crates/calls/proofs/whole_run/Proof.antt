@@ -1,12 +1,11 @@
 -- `calls::whole_run` meets its contract: the start, the steps, the words set to zero, the report.
 -- Assumes nothing.
-use mathlib.Core.Path.{_≡_, sym, ap, _∙_, subst}
+use mathlib.Core.Path.{ap, _∙_}
 use native.Mathlib.Omega.{arith}
 use Rattle.place.specs.declared.Place.{Place}
+use Rattle.verdicts.proofs.Verdicts.{needed-most}
 use Rattle.steps.specs.Walk.{reported}
-use Rattle.area.specs.Parts.{zeroed}
 use Rattle.calls.specs.Calls.{reportSays, wholeReport}
-use Rattle.calls.proofs.Verdicts.{needed-most}
 use Rattle.calls.proofs.Loops.{whole-starts, whole-ends, whole-beyond, list-cost}
 use borrow.Author.Needs.{needs}
 use Rattle.calls.proofs.whole_run.Statement.{statement}

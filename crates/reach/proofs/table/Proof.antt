@@ -1,12 +1,12 @@
 -- `reach::table` meets its contract: the verdict, and the table where nothing refuses.
 -- Assumes nothing.
 use native.Mathlib.Nat.{sub-zero}
-use Rattle.reach.proofs.Picks.{table-sound, front-long}
-use mathlib.Core.Path.{_≡_, sym, ap, _∙_}
+use mathlib.Core.Path.{sym, ap, _∙_}
 use native.Mathlib.Omega.{arith}
-use Rattle.calls.specs.Answers.{verdictSays}
-use Rattle.calls.proofs.Verdicts.{number-some}
+use Rattle.model.proofs.Refusals.{number-some}
+use Rattle.verdicts.specs.Verdicts.{verdictSays}
 use Rattle.reach.specs.Tables.{tableLeaves, tableOf}
+use Rattle.reach.proofs.Picks.{table-sound, front-long}
 use borrow.Author.Needs.{needs}
 use Rattle.reach.proofs.table.Statement.{statement}
 use Rattle.reach.proofs.table.Tie as tie

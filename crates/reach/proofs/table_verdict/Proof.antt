@@ -2,11 +2,11 @@
 -- Assumes nothing.
 use lib.ListN.{length}
 use native.Mathlib.Nat.{div-add-mod'}
-use mathlib.Core.Path.{_≡_, refl, sym, _∙_}
+use mathlib.Core.Path.{refl}
 use native.Mathlib.Omega.{arith}
 use borrow.Author.Tests.{eq-eqb, ne-eqb, lt-ltb, le-ltb}
+use Rattle.verdicts.proofs.Verdicts.{stop-step, stop-here, between-says, passed-by, failed-by, holds-by}
 use Rattle.reach.specs.Tables.{tableVerdict}
-use Rattle.calls.proofs.Verdicts.{stop-step, stop-here, between-says, passed-by, failed-by, holds-by}
 use borrow.Author.Needs.{needs}
 use Rattle.reach.proofs.table_verdict.Statement.{statement}
 use Rattle.reach.proofs.table_verdict.Tie as tie

@@ -1,6 +1,6 @@
 -- `report::put_answer` meets its contract: the columns of each case of the answer.
 -- Assumes nothing.
-use Rattle.calls.proofs.Verdicts.{number-some}
+use Rattle.model.proofs.Refusals.{number-some}
 use Rattle.report.specs.Report.{lineOf}
 use borrow.Author.Needs.{needs}
 use Rattle.report.proofs.put_answer.Statement.{statement}

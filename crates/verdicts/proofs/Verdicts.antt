@@ -1,8 +1,8 @@
 -- Verdicts: how code arrives at one, and what one says, read back. Assumes nothing.
 use mathlib.Core.Path.{_≡_, refl, sym, ap, _∙_, subst}
 use mathlib.Core.Bool.{Bool, true, false, _&&_, not}
-use Prim.Native.Nat.{ℕ, suc, _+_, _-_, _*_, _/_, _%_, _≤_, _<_}
-use native.Mathlib.Nat.{mul-le-mul, mul-le-mul-right, suc-mul, add-sub-cancel-left, div-add-mod'}
+use Prim.Native.Nat.{ℕ, _+_, _-_, _*_, _/_, _%_, _≤_, _<_}
+use native.Mathlib.Nat.{mul-le-mul, add-sub-cancel-left, div-add-mod'}
 use native.Mathlib.Omega.{arith}
 use mathlib.Core.List.{List}
 use lib.Dec.{T, eqb, eqb→eq, leb, leb→le, le→leb, ltb, lt→ltb}
@@ -10,7 +10,7 @@ use lib.ListN.{length, take, drop}
 use Rattle.model.proofs.Logic.{tr, T→≡, eq-refl, and-l, and-r}
 use Rattle.checks.specs.Checks.{clean, listed}
 use Rattle.checks.specs.Lent.{cleanPicks}
-use Rattle.measures.specs.Kit.{widthOf, either}
+use Rattle.measures.specs.Kit.{widthOf}
 use Rattle.measures.proofs.Words.{width-links}
 use Rattle.area.specs.Parts.{Has, part}
 use Rattle.area.proofs.Laws.{has}
@@ -18,12 +18,8 @@ use Rattle.area.proofs.Lent.{width-most}
 use Rattle.place.specs.declared.Place.{Place}
 use Rattle.place.specs.Places.{between, soundPlace}
 use Rattle.place.proofs.Laws.{sound-says}
-use Rattle.model.specs.declared.Refusal.{Refusal}
-use Rattle.model.specs.declared.Refusal.the-variants.{Boards, Measure, Picks, Room, Forbidden, Unlisted, Full, NoPick, NoLength, Shape, Command, Stopped, Operands, Unchanged, Trailing, BadPlace}
-use Rattle.model.specs.Refusals.{number}
-use Rattle.calls.specs.Calls.{stop, needed, openVerdict, pickVerdict, pickState, wholeVerdict}
-use Rattle.steps.specs.Walk.{State, state, kitOf, stepped}
-use Rattle.calls.specs.Fit.{Clears, Opens, Takes, Runs}
+use Rattle.verdicts.specs.Verdicts.{stop, needed, openVerdict, pickVerdict, wholeVerdict}
+use Rattle.verdicts.specs.Fit.{Clears, Opens, Takes, Runs}
 
 -- a test that fails leaves it to the rest
 pub stop-step : {x : Bool} (c : ℕ) {v r : ℕ} → x ≡ false → r ≡ v → r ≡ stop x c v
@@ -40,25 +36,6 @@ pub stop-out : (x : Bool) (c v : ℕ) → 1 ≤ c → stop x c v ≡ 0 → (x �
 unfolding stop
 stop-out true c v h e = absurd (omega arith)
 stop-out false c v h e = (refl, e)
-
--- a refusal has a number
-pub number-some : (c : Refusal) → eqb (number c) 0 ≡ false
-number-some Boards = refl
-number-some Measure = refl
-number-some Picks = refl
-number-some Room = refl
-number-some Forbidden = refl
-number-some Unlisted = refl
-number-some Full = refl
-number-some NoPick = refl
-number-some NoLength = refl
-number-some Shape = refl
-number-some Command = refl
-number-some Stopped = refl
-number-some Operands = refl
-number-some Unchanged = refl
-number-some Trailing = refl
-number-some BadPlace = refl
 
 -- a range that was checked
 pub between-says : (low x high : ℕ) → between low x high ≡ true → (low ≤ x) × (x ≤ high)
@@ -96,6 +73,17 @@ third-part measure n limit words h = has (widthOf measure n) (limit + 4) words (
 -- the same, of the width and the length that code has
 pub third-fits : (measure n limit e words after : ℕ) → e ≡ widthOf measure n → after ≡ words → needed measure n limit ≤ words → Has e after (limit + 3)
 third-fits measure n limit e words after q k h = rw (q, k) (third-part measure n limit words h)
+
+-- part limit + 3, as code lends it
+pub third-lent : (n limit : ℕ) (a : List ℕ) → take ((limit + 2) * n + n - (limit + 2) * n) (drop ((limit + 2) * n) a) ≡ part n a (limit + 3)
+unfolding part
+third-lent n limit a =
+    let e : limit + 2 ≡ limit + 3 - 1 = omega arith in
+    ap (λ (x : ℕ). take x (drop ((limit + 2) * n) a)) (add-sub-cancel-left ((limit + 2) * n) n) ∙ ap (λ (x : ℕ). take n (drop (x * n) a)) e
+
+-- under measure 2 a part has n words
+pub links-room : (measure n limit words : ℕ) → measure ≡ 2 → needed measure n limit ≤ words → (limit + 4) * n ≤ words
+links-room measure n limit words m h = subst (λ (x : ℕ). (limit + 4) * x ≤ words) (width-links measure n (λ x. omega arith)) h
 
 -- the footprint of measure 2 fills a part
 pub footprint-fills : (measure n e words : ℕ) → measure ≡ 2 → e ≡ widthOf measure n → n ≡ words → e ≡ words
@@ -191,29 +179,3 @@ whole-sound n measure w a e =
       room = not-short (length a) (needed measure n m) (s6 .0);
       clean = true-of (cleanPicks n w (length w / n)) (s7 .0);
     }
-
--- what a pick that nothing refuses leaves, and one that is refused
-pub taken-state : (p : Place) (a w : List ℕ) → pickVerdict p a w ≡ 0 → pickState p a w ≡ stepped (kitOf p) w (state p a)
-unfolding pickState
-taken-state p a w e = ap (λ (b : ℕ). either (eqb b 0) (stepped (kitOf p) w (state p a)) (state p a)) e
-
-pub refused-state : (p : Place) (a w : List ℕ) → eqb (pickVerdict p a w) 0 ≡ false → pickState p a w ≡ state p a
-unfolding pickState
-refused-state p a w e = ap (λ (b : Bool). either b (stepped (kitOf p) w (state p a)) (state p a)) e
-
--- part limit + 3, as code lends it
-pub third-lent : (n limit : ℕ) (a : List ℕ) → take ((limit + 2) * n + n - (limit + 2) * n) (drop ((limit + 2) * n) a) ≡ part n a (limit + 3)
-unfolding part
-third-lent n limit a =
-    let e : limit + 2 ≡ limit + 3 - 1 = omega arith in
-    ap (λ (x : ℕ). take x (drop ((limit + 2) * n) a)) (add-sub-cancel-left ((limit + 2) * n) n) ∙ ap (λ (x : ℕ). take n (drop (x * n) a)) e
-
-pub third-end : (n limit words : ℕ) → (limit + 4) * n ≤ words → (limit + 2) * n + n ≤ words
-third-end n limit words h =
-    let a = suc-mul (limit + 2) n in
-    let b : suc (limit + 2) ≤ limit + 4 = omega arith in
-    omega (arith, mul-le-mul-right n b)
-
--- under measure 2 a part has n words
-pub links-room : (measure n limit words : ℕ) → measure ≡ 2 → needed measure n limit ≤ words → (limit + 4) * n ≤ words
-links-room measure n limit words m h = subst (λ (x : ℕ). (limit + 4) * x ≤ words) (width-links measure n (λ x. omega arith)) h

@@ -1,14 +1,13 @@
--- `calls::is_listed` meets its contract.
+-- `verdicts::is_listed` meets its contract.
 -- Assumes nothing.
 use Prim.Native.Nat.{ℕ}
 use mathlib.Core.List.{List}
+use mathlib.Core.Path.{ap, _∙_}
 use Rattle.checks.specs.Checks.{listed}
-use Rattle.calls.proofs.Verdicts.{third-lent, third-end}
-use mathlib.Core.Path.{_≡_, sym, ap, _∙_}
-use native.Mathlib.Omega.{arith}
+use Rattle.verdicts.proofs.Verdicts.{third-lent}
 use borrow.Author.Needs.{needs}
-use Rattle.calls.proofs.is_listed.Statement.{statement}
-use Rattle.calls.proofs.is_listed.Tie as tie
+use Rattle.verdicts.proofs.is_listed.Statement.{statement}
+use Rattle.verdicts.proofs.is_listed.Tie as tie
 
 add-at : tie.Need-add-at
 add-at c = search needs

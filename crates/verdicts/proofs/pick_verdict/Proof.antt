@@ -1,14 +1,14 @@
--- `calls::pick_verdict` meets its contract: the causes in their order.
+-- `verdicts::pick_verdict` meets its contract: the causes in their order.
 -- Assumes nothing.
-use Rattle.calls.proofs.Verdicts.{stop-step, stop-here, passed-by, failed-by, holds-by, not-short, links-room}
-use mathlib.Core.Path.{_≡_, refl, sym, ap, _∙_}
+use mathlib.Core.Path.{refl, sym, _∙_}
 use native.Mathlib.Omega.{arith}
 use borrow.Author.Tests.{eq-eqb, ne-eqb, le-leb, lt-leb}
 use Rattle.place.proofs.Laws.{sound-says}
-use Rattle.calls.specs.Calls.{pickVerdict}
+use Rattle.verdicts.specs.Verdicts.{pickVerdict}
+use Rattle.verdicts.proofs.Verdicts.{stop-step, stop-here, passed-by, failed-by, holds-by, not-short, links-room}
 use borrow.Author.Needs.{needs}
-use Rattle.calls.proofs.pick_verdict.Statement.{statement}
-use Rattle.calls.proofs.pick_verdict.Tie as tie
+use Rattle.verdicts.proofs.pick_verdict.Statement.{statement}
+use Rattle.verdicts.proofs.pick_verdict.Tie as tie
 
 is-sound-requires : tie.Need-is-sound-requires
 is-sound-requires c κs = search needs

@@ -1,15 +1,15 @@
--- `calls::whole_verdict` meets its contract: the causes in their order.
+-- `verdicts::whole_verdict` meets its contract: the causes in their order.
 -- Assumes nothing.
-use mathlib.Core.Path.{_≡_, refl, sym, _∙_}
+use mathlib.Core.Path.{refl, sym, _∙_}
 use native.Mathlib.Nat.{div-add-mod'}
 use native.Mathlib.Omega.{arith}
 use borrow.Author.Tests.{eq-eqb, ne-eqb, lt-ltb, le-ltb}
 use lib.ListN.{length}
-use Rattle.calls.specs.Calls.{wholeVerdict}
-use Rattle.calls.proofs.Verdicts.{stop-step, stop-here, between-says, passed-by, failed-by, holds-by}
+use Rattle.verdicts.specs.Verdicts.{wholeVerdict}
+use Rattle.verdicts.proofs.Verdicts.{stop-step, stop-here, between-says, passed-by, failed-by, holds-by}
 use borrow.Author.Needs.{needs}
-use Rattle.calls.proofs.whole_verdict.Statement.{statement}
-use Rattle.calls.proofs.whole_verdict.Tie as tie
+use Rattle.verdicts.proofs.whole_verdict.Statement.{statement}
+use Rattle.verdicts.proofs.whole_verdict.Tie as tie
 
 is-between-requires : tie.Need-is-between-requires
 is-between-requires c κs = search needs

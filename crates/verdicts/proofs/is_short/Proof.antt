@@ -1,12 +1,10 @@
--- `calls::is_short` meets its contract.
+-- `verdicts::is_short` meets its contract.
 -- Assumes nothing.
 use native.Mathlib.Omega.{arith}
-use Rattle.calls.proofs.Verdicts.{needed-most}
-use native.Mathlib.Nat.{mul-le-mul}
-use Rattle.area.proofs.Lent.{width-most}
+use Rattle.verdicts.proofs.Verdicts.{needed-most}
 use borrow.Author.Needs.{needs}
-use Rattle.calls.proofs.is_short.Statement.{statement}
-use Rattle.calls.proofs.is_short.Tie as tie
+use Rattle.verdicts.proofs.is_short.Statement.{statement}
+use Rattle.verdicts.proofs.is_short.Tie as tie
 
 width-requires : tie.Need-width-requires
 width-requires c κs = search needs

@@ -1,10 +1,10 @@
--- `calls::room_verdict` meets its contract.
+-- `verdicts::room_verdict` meets its contract.
 -- Assumes nothing.
-use mathlib.Core.Path.{_≡_, refl, sym, _∙_}
-use Rattle.calls.proofs.Verdicts.{stop-step, stop-here}
+use mathlib.Core.Path.{refl, sym, _∙_}
+use Rattle.verdicts.proofs.Verdicts.{stop-step, stop-here}
 use borrow.Author.Needs.{needs}
-use Rattle.calls.proofs.room_verdict.Statement.{statement}
-use Rattle.calls.proofs.room_verdict.Tie as tie
+use Rattle.verdicts.proofs.room_verdict.Statement.{statement}
+use Rattle.verdicts.proofs.room_verdict.Tie as tie
 
 is-short-requires : tie.Need-is-short-requires
 is-short-requires c κs = search needs

@@ -1,13 +1,12 @@
--- `calls::open_verdict` meets its contract: the causes in their order.
+-- `verdicts::open_verdict` meets its contract: the causes in their order.
 -- Assumes nothing.
-use mathlib.Core.Path.{_≡_, sym, ap, _∙_}
 use native.Mathlib.Omega.{arith}
 use borrow.Author.Tests.{eq-eqb, ne-eqb}
-use Rattle.calls.specs.Calls.{openVerdict}
-use Rattle.calls.proofs.Verdicts.{stop-step, stop-here, between-says, passed-by, failed-by, holds-by}
+use Rattle.verdicts.specs.Verdicts.{openVerdict}
+use Rattle.verdicts.proofs.Verdicts.{stop-step, stop-here, between-says, passed-by, failed-by, holds-by}
 use borrow.Author.Needs.{needs}
-use Rattle.calls.proofs.open_verdict.Statement.{statement}
-use Rattle.calls.proofs.open_verdict.Tie as tie
+use Rattle.verdicts.proofs.open_verdict.Statement.{statement}
+use Rattle.verdicts.proofs.open_verdict.Tie as tie
 
 is-between-requires : tie.Need-is-between-requires
 is-between-requires c κs = search needs

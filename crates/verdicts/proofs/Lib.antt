@@ -1,0 +1,2 @@
+-- Verdicts read forwards and back.
+pub mod Verdicts

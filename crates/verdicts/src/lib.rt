@@ -1,0 +1,141 @@
+// What the checks of opening, pick and whole run find, cause by cause in document 01's order. The three verdicts require nothing.
+ghost use mathlib.Core.Path.{_≡_};
+ghost use Prim.Native.Nat.{_+_, _*_, _≤_};
+ghost use lib.ListN.{length};
+ghost use lib.Dec.{ltb};
+ghost use Rattle.checks.specs.Checks.{listed};
+ghost use Rattle.area.specs.Parts.{part};
+ghost use Rattle.verdicts.specs.Verdicts.{stop, needed, openVerdict, pickVerdict, wholeVerdict, verdictSays};
+use model::Refusal;
+use place::Place;
+
+// What the checks of a call find.
+pub enum Verdict {
+    Sound,
+    Refuse(Refusal),
+}
+
+// Whether the area is shorter than needed: cause 4.
+fn is_short(area: &[u32], measure: usize, n: usize, limit: usize) -> bool
+    requires { ⌜ (n ≤ 32) × (limit ≤ 4096) ⌝ }
+    ensures { λ r. ⌜ r ≡ ltb (length (now (area .entry))) (needed measure n limit) ⌝ }
+{
+    let e = measures::width(measure, n);
+    area.len() < (limit + 4) * e
+}
+
+// ---- opening
+
+fn room_verdict(area: &[u32], measure: usize, n: usize, limit: usize) -> Verdict
+    requires { ⌜ (n ≤ 32) × (limit ≤ 4096) ⌝ }
+    ensures { λ r. ⌜ verdictSays r ≡ stop (ltb (length (now (area .entry))) (needed measure n limit)) 4 0 ⌝ }
+{
+    if is_short(area, measure, n, limit) {
+        return Verdict::Refuse(Refusal::Room);
+    }
+    Verdict::Sound
+}
+
+// The causes of an opening, in their order: 1, 2, 3, 10, 5, 4. Only measure 2 has a footprint.
+pub fn open_verdict(
+    n: usize,
+    measure: usize,
+    limit: usize,
+    footprint: &[u32],
+    area: &[u32],
+) -> Verdict
+    ensures { λ r. ⌜ verdictSays r ≡ openVerdict n measure limit (now (footprint .entry)) (now (area .entry)) ⌝ }
+{
+    if !place::is_between(2, n, 32) {
+        return Verdict::Refuse(Refusal::Boards);
+    }
+    if !place::is_between(1, measure, 4) {
+        return Verdict::Refuse(Refusal::Measure);
+    }
+    if !place::is_between(1, limit, 4096) {
+        return Verdict::Refuse(Refusal::Picks);
+    }
+    if measure != 2 {
+        return room_verdict(area, measure, n, limit);
+    }
+    if footprint.len() != n {
+        return Verdict::Refuse(Refusal::Shape);
+    }
+    if !checks::is_clean(footprint, n) {
+        return Verdict::Refuse(Refusal::Forbidden);
+    }
+    room_verdict(area, measure, n, limit)
+}
+
+// ---- pick
+
+// Whether the footprint in part limit + 3 has every link of a pick.
+fn is_listed(area: &[u32], words: &[u32], n: usize, limit: usize) -> bool
+    requires { ⌜ (n ≤ 32) × ((limit ≤ 4096) × ((n ≡ length (now words)) × ((limit + 4) * n ≤ length (now area)))) ⌝ }
+    ensures { λ r. ⌜ r ≡ listed n (part n (now (area .entry)) (limit + 3)) (now (words .entry)) ⌝ }
+{
+    let at = (limit + 2) * n;
+    checks::is_listed(&area[at..at + n], words, n)
+}
+
+// The causes of a pick, in their order: 16, 7, 10, 5, 4, 6.
+pub fn pick_verdict(p: Place, area: &[u32], words: &[u32]) -> Verdict
+    ensures { λ r. ⌜ verdictSays r ≡ pickVerdict p (now (area .entry)) (now (words .entry)) ⌝ }
+{
+    let n = p.boards;
+    let limit = p.limit;
+    let measure = p.measure;
+    if !p.is_sound() {
+        return Verdict::Refuse(Refusal::BadPlace);
+    }
+    if limit <= p.taken.0 {
+        return Verdict::Refuse(Refusal::Full);
+    }
+    if words.len() != n {
+        return Verdict::Refuse(Refusal::Shape);
+    }
+    if !checks::is_clean(words, n) {
+        return Verdict::Refuse(Refusal::Forbidden);
+    }
+    if is_short(area, measure, n, limit) {
+        return Verdict::Refuse(Refusal::Room);
+    }
+    if measure != 2 {
+        return Verdict::Sound;
+    }
+    if !is_listed(area, words, n, limit) {
+        return Verdict::Refuse(Refusal::Unlisted);
+    }
+    Verdict::Sound
+}
+
+// ---- whole run
+
+// The causes of a whole run, in their order: 1, 2, 10, 8, 3, 4, 5.
+pub fn whole_verdict(n: usize, measure: usize, words: &[u32], area: &[u32]) -> Verdict
+    ensures { λ r. ⌜ verdictSays r ≡ wholeVerdict n measure (now (words .entry)) (now (area .entry)) ⌝ }
+{
+    if !place::is_between(2, n, 32) {
+        return Verdict::Refuse(Refusal::Boards);
+    }
+    if !place::is_between(1, measure, 4) {
+        return Verdict::Refuse(Refusal::Measure);
+    }
+    if words.len() % n != 0 {
+        return Verdict::Refuse(Refusal::Shape);
+    }
+    let m = words.len() / n;
+    if m == 0 {
+        return Verdict::Refuse(Refusal::NoPick);
+    }
+    if 4096 < m {
+        return Verdict::Refuse(Refusal::Picks);
+    }
+    if is_short(area, measure, n, m) {
+        return Verdict::Refuse(Refusal::Room);
+    }
+    if !checks::are_clean(words, n, m) {
+        return Verdict::Refuse(Refusal::Forbidden);
+    }
+    Verdict::Sound
+}
