@@ -1,16 +1,16 @@
 -- The checks say what the meaning says. Assumes nothing.
 use mathlib.Core.Path.{_≡_, sym, ap, _∙_, subst}
 use mathlib.Core.Logic.{_↔_, ⊎-elim}
-use mathlib.Core.Bool.{Bool, _||_, _&&_, not}
+use mathlib.Core.Bool.{_||_, not}
 use mathlib.Core.List.{List}
 use Prim.Native.Nat.{ℕ, _-_, _^_, _≤_, _<_}
 use native.Mathlib.Decide.{decLt}
 use native.Mathlib.Omega.{arith}
 use lib.Bits.{bitOr, or-lt}
-use lib.Dec.{T, eqb, eqb→eq, leb, leb→le, le→leb}
+use lib.Dec.{T, eqb→eq, leb, leb→le, le→leb}
 use lib.ListN.{length, getD, List·getD-eq-default}
 use lib.Pow.{pow-pos}
-use Rattle.model.specs.Recording.{bit, link, Words, Clean}
+use Rattle.model.specs.Recording.{bit, link, Clean}
 use Rattle.model.proofs.Logic.{tr, bool-ext, or-l, or-r, or-cases, and-both, and-l, and-r, not-in, not-out, eq-refl}
 use Rattle.model.proofs.Bits.{bit-or, bits-ext}
 use Rattle.model.proofs.Links.{link-from}

@@ -1,18 +1,17 @@
 -- Picks lent as words: where they lie, and that clean ones are a recording. Assumes nothing.
-use mathlib.Core.Path.{_≡_, refl, sym, ap, _∙_, subst}
-use mathlib.Core.Logic.{⊎-elim, _↔_}
-use mathlib.Core.List.{List, [], _∷_, _++_, append-nil}
+use mathlib.Core.Path.{_≡_, refl, sym, ap, _∙_}
+use mathlib.Core.Logic.{⊎-elim}
+use mathlib.Core.List.{List, [], _∷_}
 use Prim.Native.Nat.{ℕ, zero, suc, _+_, _-_, _*_, _≤_, _<_}
 use native.Mathlib.Nat.{suc-mul, mul-le-mul-right, add-sub-cancel-left, eq-or-lt-of-le, le-of-suc-le-suc}
 use native.Mathlib.Numerals.{add-one}
 use native.Mathlib.Omega.{arith}
 use lib.Dec.{T}
-use lib.ListN.{length, getD, take, drop, length-append, length-drop, List·getD-append}
+use lib.ListN.{length, take, drop, length-append, length-drop, List·getD-append}
 use lib.Seq.{length-take-le, getD-at}
-use Rattle.model.specs.Recording.{Clean, Recording, pickAt}
+use Rattle.model.specs.Recording.{Recording, pickAt}
 use Rattle.model.proofs.Windows.{rec-append}
-use Rattle.lists.proofs.Tab.{every-in, every-out}
-use Rattle.checks.specs.Checks.{clean}
+use Rattle.lists.proofs.Tab.{every-out}
 use Rattle.checks.specs.Lent.{lentPick, lentPicks, cleanPick, cleanPicks}
 use Rattle.checks.proofs.Clean.{clean-is}
 

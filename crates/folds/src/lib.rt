@@ -2,11 +2,10 @@
 // which boards u reaches, so rows with the same set of boards share one fold over the later table. Latest departures are the same, with
 // rows and columns exchanged and the two parts too.
 ghost use mathlib.Core.Path.{_≡_};
-ghost use mathlib.Core.Bool.{Bool};
 ghost use Prim.Native.Nat.{_+_, _*_, _≤_, _<_};
 ghost use lib.ListN.{length, getD};
-ghost use Rattle.lists.specs.Tab.{tab, zeros, padded};
-ghost use Rattle.times.specs.Times.{cell, rows, sooner, later, arrivals, departures, composeTimes};
+ghost use Rattle.lists.specs.Tab.{tab, zeros};
+ghost use Rattle.times.specs.Times.{cell, rows, sooner, later, departures, composeTimes};
 ghost use Rattle.folds.specs.Folds.{each, better, betterIf, rowAt, putRow, gather, foldOf, joinedRow, crossed, Shared};
 use model::Board;
 

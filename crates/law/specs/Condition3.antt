@@ -1,9 +1,9 @@
 -- CONDITION 3 of the mission over the definitions: one claim, both ways, with h, the most links in one pick, left open. Two recordings have
 -- equal tables of reach exactly when no part before and no part after tells them apart by a reach length. Assumes nothing.
 use mathlib.Core.Path.{_≡_, sym, ap, subst}
-use mathlib.Core.Logic.{_≢_, _⊎_, ⊎-elim, _↔_}
+use mathlib.Core.Logic.{_≢_, ⊎-elim, _↔_}
 use mathlib.Core.List.{List, [], _∷_, _++_}
-use Prim.Native.Nat.{ℕ, _+_, _-_, _≤_, _<_}
+use Prim.Native.Nat.{ℕ, _≤_, _<_}
 use native.Mathlib.Nat.{le-refl}
 use native.Mathlib.Omega.{arith}
 use lib.Dec.{T}

@@ -14,7 +14,7 @@ use Rattle.model.specs.Journey.{Limit, unlimited, atMost, val, Journey}
 use Rattle.model.proofs.Logic.{eq-or, and-both, and-l, and-r, eqb-ne, ne-eqb, T→≡}
 use Rattle.model.proofs.Links.{link-to}
 use Rattle.model.proofs.Windows.{rec-window}
-use Rattle.model.proofs.Trips.{Walk, stop, step, Hop, Trip, walk-to, journey-trip}
+use Rattle.model.proofs.Trips.{Walk, stop, step, Trip, walk-to, journey-trip}
 
 -- how many of the boards below n are in a set
 abbrev num : ℕ → (ℕ → Bool) → ℕ

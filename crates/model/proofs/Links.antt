@@ -9,7 +9,7 @@ use lib.ListN.{length, getD, List·getD-eq-default}
 use lib.Seq.{ext-getD}
 use lib.Pow.{pow-pos, pow-mono}
 use lib.Dec.{T}
-use Rattle.model.specs.Recording.{bit, link, Words, Clean}
+use Rattle.model.specs.Recording.{bit, link, Words}
 use Rattle.model.proofs.Logic.{tr}
 use Rattle.model.proofs.Bits.{bit-high, bits-ext}
 

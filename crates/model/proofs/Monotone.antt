@@ -9,8 +9,8 @@ use mathlib.Core.List.{List}
 use lib.ListN.{length}
 use lib.Dec.{T}
 use Rattle.model.specs.Recording.{link}
-use Rattle.model.specs.Journey.{Limit, Open, Journey, Arrival, Departure}
-use Rattle.model.specs.Measures.{CommonLink, Leads, here, along, PassesCommon, SomeLink, PassesFootprint, PassesReach, RoundTrip, PassesRoundTrip}
+use Rattle.model.specs.Journey.{Limit, Open, Journey}
+use Rattle.model.specs.Measures.{Leads, here, along, PassesCommon, PassesFootprint, PassesReach, RoundTrip, PassesRoundTrip}
 use Rattle.model.specs.Length.{Upward, Downward}
 use Rattle.model.proofs.Logic.{first-of, last-of}
 use Rattle.model.proofs.Trips.{journey-wider}

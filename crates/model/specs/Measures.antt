@@ -1,6 +1,5 @@
 -- When the window of the picks i to j of a recording over n boards passes, for each measure: the table of document 01, and the properties of
 -- section 4 of source document 002.
-use mathlib.Core.Path.{_≡_}
 use mathlib.Core.Logic.{_≢_, _↔_}
 use mathlib.Core.List.{List}
 use Prim.Native.Nat.{ℕ, _+_, _≤_, _<_}

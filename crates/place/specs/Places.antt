@@ -1,6 +1,6 @@
 -- The place: its fresh values, its steps as whole records, and cause 16 of 01, as a test and clause by clause.
 use Prim.Native.Nat.{ℕ, _+_, _*_, _≤_}
-use mathlib.Core.Bool.{Bool, true, false, _&&_, _||_, not}
+use mathlib.Core.Bool.{Bool, false, _&&_, _||_, not}
 use mathlib.Core.Path.{_≡_}
 use lib.Dec.{eqb, leb}
 use Rattle.place.specs.declared.Place.{Place}

@@ -2,7 +2,7 @@
 use mathlib.Core.Path.{_≡_, refl, sym, ap, ap₂, _∙_}
 use mathlib.Core.Bool.{not}
 use mathlib.Core.List.{List, [], _∷_, _++_}
-use Prim.Native.Nat.{ℕ, zero, suc, _+_, _-_, _*_, _/_, _%_, _≤_}
+use Prim.Native.Nat.{ℕ, suc, _+_, _-_, _*_, _/_, _%_, _≤_}
 use native.Mathlib.Nat.{sub-zero, div-add-mod', zero-mul}
 use native.Mathlib.Numerals.{add-one}
 use native.Mathlib.Omega.{arith}
@@ -17,7 +17,6 @@ use Rattle.links.specs.Composed.{composedFrom, composed, reach}
 use Rattle.checks.specs.Lent.{lentPick, lentPicks, cleanPicks}
 use Rattle.checks.proofs.Lent.{length-lent}
 use Rattle.place.specs.Places.{between}
-use Rattle.verdicts.specs.Verdicts.{stop}
 use Rattle.verdicts.proofs.Verdicts.{stop-out, between-says, holds-by, true-of, not-short}
 use Rattle.reach.specs.Tables.{tableVerdict}
 

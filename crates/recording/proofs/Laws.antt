@@ -13,6 +13,8 @@ use Rattle.model.specs.Recording.{Recording, pickAt}
 use Rattle.model.specs.Refusals.{number}
 use Rattle.model.specs.declared.Refusal.{Refusal}
 use Rattle.model.specs.declared.Refusal.the-variants as cause
+use Rattle.model.proofs.Logic.{tr, eq-refl}
+use Rattle.model.proofs.Refusals.{number-some}
 use Rattle.checks.specs.Lent.{lentPick, lentPicks}
 use Rattle.recording.specs.Format.{Content, ended, refused, unless, alone, recordingAt, readFile, words, over, stored}
 use Rattle.recording.specs.Answers.{Read, read, ReadAt, readAt, fileSays, partSays, partOf, readSays, readLeaves, readAtSays, readAtLeaves}
@@ -83,22 +85,7 @@ module _ {limit : ℕ} {bytes : List ℕ} {start n : ℕ} {picks : List (List �
 -- ---- `read_at`
 
 number-positive : (r : Refusal) → number r ≡ 0 → ⊥
-number-positive cause.Boards e = omega arith
-number-positive cause.Measure e = omega arith
-number-positive cause.Picks e = omega arith
-number-positive cause.Room e = omega arith
-number-positive cause.Forbidden e = omega arith
-number-positive cause.Unlisted e = omega arith
-number-positive cause.Full e = omega arith
-number-positive cause.NoPick e = omega arith
-number-positive cause.NoLength e = omega arith
-number-positive cause.Shape e = omega arith
-number-positive cause.Command e = omega arith
-number-positive cause.Stopped e = omega arith
-number-positive cause.Operands e = omega arith
-number-positive cause.Unchanged e = omega arith
-number-positive cause.Trailing e = omega arith
-number-positive cause.BadPlace e = omega arith
+number-positive r e = tr (number-some r) (eq-refl e)
 
 module _ (limit : ℕ) (bytes : List ℕ) (start : ℕ) (out : List ℕ) where
   -- a recording that is read ends behind its start and within the file

@@ -5,7 +5,7 @@ ghost use lib.ListN.{length, take, drop};
 ghost use Rattle.lists.specs.Tab.{zeros};
 ghost use Rattle.calls.specs.Answers.{answerSays};
 ghost use Rattle.columns.specs.Text.{Put};
-ghost use Rattle.report.specs.Report.{header, rowOf, lineOf, linesOf, reportOf};
+ghost use Rattle.report.specs.Report.{rowOf, lineOf, linesOf, reportOf};
 use calls::Answer;
 use columns::Cell;
 use model::Compositions;

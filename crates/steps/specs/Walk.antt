@@ -7,7 +7,7 @@ use mathlib.Core.List.{List}
 use lib.Dec.{eqb, leb, ltb}
 use Rattle.model.specs.Journey.{val}
 use Rattle.measures.specs.Kit.{Kit, kit, either}
-use Rattle.area.specs.Parts.{part, putPart, composeAt, copyAt, zeroAt, ownAt}
+use Rattle.area.specs.Parts.{part, composeAt, copyAt, zeroAt, ownAt}
 use Rattle.place.specs.declared.Place.{Place}
 use Rattle.place.specs.Places.{pickTaken, startMoved, turned, charged, tested}
 

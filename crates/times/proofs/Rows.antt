@@ -8,7 +8,7 @@ use native.Mathlib.Nat.{sub-zero, zero-mul, suc-mul, mul-le-mul-right, le-of-eq,
 use native.Mathlib.Omega.{arith}
 use lib.Dec.{eqb}
 use lib.ListN.{length, take, drop, set, getD, length-append, length-drop, length-set, drop-of-length-le}
-use lib.Seq.{take-at, drop-at, drop-drop, take-all, length-take-le, getD-drop, getD-set-same, getD-set-other, ext-getD}
+use lib.Seq.{take-at, drop-at, drop-drop, take-all, length-take-le, getD-set-same, getD-set-other, ext-getD}
 use borrow.Author.Tests.{eqb-true, eqb-false}
 use Rattle.lists.specs.Tab.{tab}
 use Rattle.lists.proofs.Tab.{length-tab, getD-tab}

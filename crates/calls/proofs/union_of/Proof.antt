@@ -3,9 +3,8 @@
 use mathlib.Core.Path.{_≡_}
 use Prim.Native.Nat.{_≤_, _-_}
 use native.Mathlib.Omega.{arith}
-use lib.ListN.{length}
 use Rattle.lists.specs.Tab.{padded}
-use Rattle.checks.proofs.Lent.{lent-end, lent-part, lent-room}
+use Rattle.checks.proofs.Lent.{lent-end, lent-part}
 use Rattle.calls.specs.Calls.{unions}
 use Rattle.calls.proofs.Loops.{unions-start, unions-turn, padded-long}
 use borrow.Author.Needs.{needs}

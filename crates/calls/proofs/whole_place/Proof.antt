@@ -1,7 +1,6 @@
 -- `calls::whole_place` meets its contract.
 -- Assumes nothing.
 use Rattle.place.specs.Places.{fresh}
-use mathlib.Core.Path.{_≡_}
 use native.Mathlib.Omega.{arith}
 use borrow.Author.Tests.{eq-eqb, ne-eqb}
 use borrow.Author.Needs.{needs}

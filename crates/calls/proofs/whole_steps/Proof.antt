@@ -1,10 +1,9 @@
 -- `calls::whole_steps` meets its contract. The invariant is `Along`.
 -- Assumes nothing.
-use Rattle.place.specs.declared.Place.{Place}
-use mathlib.Core.Path.{_≡_, sym, ap, _∙_}
+use mathlib.Core.Path.{_≡_}
 use Prim.Native.Nat.{_-_}
 use native.Mathlib.Omega.{arith}
-use Rattle.checks.proofs.Lent.{lent-end, lent-part, lent-room}
+use Rattle.checks.proofs.Lent.{lent-end, lent-part}
 use Rattle.calls.proofs.Loops.{Along, along-start, along-takes, along-turn, along-end}
 use borrow.Author.Needs.{needs}
 use Rattle.calls.proofs.whole_steps.Statement.{statement}

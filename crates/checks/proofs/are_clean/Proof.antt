@@ -1,15 +1,12 @@
 -- `checks::are_clean` meets its contract: the loop returns at the first pick with a forbidden bit.
 -- Assumes nothing.
 use Rattle.checks.proofs.Lent.{lent-end, lent-part, lent-room}
-use native.Mathlib.Nat.{mul-le-mul}
-use lib.ListN.{length}
 use Rattle.lists.specs.Tab.{every}
 use Rattle.lists.proofs.Tab.{every-none, every-next, every-stop}
-use Rattle.checks.specs.Checks.{clean}
-use Rattle.checks.specs.Lent.{lentPick, cleanPick, cleanPicks}
+use Rattle.checks.specs.Lent.{cleanPick, cleanPicks}
 use mathlib.Core.Bool.{true}
 use mathlib.Core.Path.{_≡_, sym, _∙_}
-use Prim.Native.Nat.{_*_, _-_, _≤_}
+use Prim.Native.Nat.{_-_, _≤_}
 use native.Mathlib.Omega.{arith}
 use borrow.Author.Tests.{not-true, not-false}
 use borrow.Author.Needs.{needs}

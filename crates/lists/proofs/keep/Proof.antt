@@ -1,7 +1,6 @@
 -- `lists::keep` meets its contract.
 -- Assumes nothing.
 use borrow.Author.Tests.{eq-eqb, ne-eqb}
-use borrow.Author.Needs.{needs}
 use Rattle.lists.proofs.keep.Statement.{statement}
 use Rattle.lists.proofs.keep.Tie as tie
 

@@ -4,7 +4,6 @@ use native.Mathlib.Nat.{mul-le-mul}
 use native.Mathlib.Omega.{arith}
 use borrow.Author.Tests.{eq-eqb, ne-eqb}
 use Rattle.measures.specs.Kit.{widthOf}
-use borrow.Author.Needs.{needs}
 use Rattle.measures.proofs.width.Statement.{statement}
 use Rattle.measures.proofs.width.Tie as tie
 

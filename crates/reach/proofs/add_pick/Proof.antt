@@ -1,12 +1,9 @@
 -- `reach::add_pick` meets its contract: the table's copy and the pick's own table are composed over the table.
 -- Assumes nothing.
-use mathlib.Core.Path.{_≡_, ap₂, _∙_}
+use mathlib.Core.Path.{ap₂, _∙_}
 use Rattle.links.specs.Tables.{compose}
 use Rattle.joins.proofs.Padded.{within-padded}
 use Rattle.reach.proofs.Picks.{load-words}
-use native.Mathlib.Nat.{sub-zero}
-use Rattle.lists.proofs.Tab.{take-padded}
-use lib.ListN.{take}
 use borrow.Author.Needs.{needs}
 use Rattle.reach.proofs.add_pick.Statement.{statement}
 use Rattle.reach.proofs.add_pick.Tie as tie

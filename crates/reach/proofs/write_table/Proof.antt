@@ -4,12 +4,12 @@ use Rattle.reach.proofs.Picks.{reach-turn, reach-first, first-lent}
 use Rattle.links.specs.Tables.{within}
 use native.Mathlib.Nat.{le-refl}
 use mathlib.Core.Path.{_≡_, sym, ap, _∙_}
-use Prim.Native.Nat.{_≤_, _-_, _*_}
+use Prim.Native.Nat.{_≤_, _-_}
 use native.Mathlib.Omega.{arith}
 use lib.ListN.{length}
 use Rattle.links.specs.Composed.{reach}
 use Rattle.checks.specs.Lent.{lentPicks}
-use Rattle.checks.proofs.Lent.{lent-end, lent-part, lent-room, length-lent}
+use Rattle.checks.proofs.Lent.{lent-end, lent-part}
 use borrow.Author.Needs.{needs}
 use Rattle.reach.proofs.write_table.Statement.{statement}
 use Rattle.reach.proofs.write_table.Tie as tie

@@ -4,7 +4,6 @@ use Rattle.lists.specs.Tab.{zeros}
 use mathlib.Core.Path.{refl, sym}
 use Prim.Native.Nat.{ℕ}
 use lib.ListN.{length-replicate}
-use borrow.Author.Needs.{needs}
 use Rattle.report.proofs.no_words.Statement.{statement}
 use Rattle.report.proofs.no_words.Tie as tie
 

@@ -1,6 +1,6 @@
 -- `report::report` meets its contract: the header, and under it what the reading says.
 -- Assumes nothing.
-use mathlib.Core.Path.{_≡_, sym, ap, _∙_}
+use mathlib.Core.Path.{sym, ap, _∙_}
 use native.Mathlib.Omega.{arith}
 use Rattle.recording.specs.Answers.{readingSays}
 use Rattle.recording.proofs.Laws.{read-law}
