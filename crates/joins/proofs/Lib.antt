@@ -1,4 +1,5 @@
--- Laws of the loops over columns and passes.
+-- Laws of the loops over columns, passes and rows.
 pub mod Rows
 pub mod Closure
+pub mod Everywhere
 pub mod Padded

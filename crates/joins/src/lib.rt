@@ -7,6 +7,7 @@ ghost use Rattle.lists.specs.Tab.{tab, padded};
 ghost use Rattle.links.specs.Tables.{without, union, throughRow, compose, within};
 ghost use Rattle.joins.specs.Columns.{columnRow, fourRow};
 ghost use Rattle.joins.specs.Warshall.{pass, passes, clearRow};
+ghost use Rattle.joins.specs.Everywhere.{united};
 use model::Board;
 
 // ---- own bits
@@ -130,12 +131,48 @@ fn pass_over_all(t: &mut [u32], n: usize)
 }
 
 // The pairs joined within one pick, by Warshall's method: 31 links are no limit for 32 boards.
-pub fn close(t: &mut [u32], n: usize)
+fn close_by_passes(t: &mut [u32], n: usize)
     requires { ⌜ (n ≤ 32) × (n ≡ length (now t)) ⌝ }
     ensures { λ _. ⌜ now (t .exit) ≡ within n 31 (now (t .entry)) ⌝ }
 {
     pass_over_all(t, n);
     clear_own(t, n);
+}
+
+// The boards that some link leads to.
+fn all_links(t: &[u32], n: usize) -> u32
+    requires { ⌜ n ≤ length (now t) ⌝ }
+    ensures { λ r. ⌜ r ≡ united (now (t .entry)) n ⌝ }
+{
+    let mut s = 0u32;
+    for w in 0..n {
+        s = s | t[w];
+    }
+    s
+}
+
+// Each row becomes the same boards, its own bit clear.
+fn write_rows(t: &mut [u32], boards: u32, n: usize)
+    requires { ⌜ (n ≤ 32) × (n ≡ length (now t)) ⌝ }
+    ensures { λ _. ⌜ now (t .exit) ≡ tab (without boards) n ⌝ }
+{
+    for u in 0..n {
+        t[u] = cleared(boards, Board(u));
+    }
+}
+
+// The pairs joined within one pick. Where links lead from every board to every other, each gets to all boards that some link leads to: two
+// searches tell, and no pass is made.
+pub fn close(t: &mut [u32], n: usize)
+    requires { ⌜ (n ≤ 32) × (n ≡ length (now t)) ⌝ }
+    ensures { λ _. ⌜ now (t .exit) ≡ within n 31 (now (t .entry)) ⌝ }
+{
+    if searches::is_connected(t, n) {
+        let boards = all_links(t, n);
+        write_rows(t, boards, n);
+        return;
+    }
+    close_by_passes(t, n);
 }
 
 // The pairs joined within the pick of the words, over out.

@@ -1,30 +1,54 @@
--- `joins::close` meets its contract: Warshall's passes and own bits cleared are the closure, which is the definition by `closed-within`.
+-- `joins::close` meets its contract: where links lead everywhere, by `everywhere-within`.
 -- Assumes nothing.
-use mathlib.Core.Path.{_∙_, ap}
-use mathlib.Core.List.{List}
+use mathlib.Core.Path.{sym, ap, _∙_}
 use Prim.Native.Nat.{ℕ}
+use Rattle.model.proofs.Logic.{tr}
 use Rattle.lists.specs.Tab.{tab}
-use Rattle.joins.specs.Warshall.{closed, clearRow}
-use Rattle.joins.proofs.Closure.{closed-within}
+use Rattle.links.specs.Tables.{without}
+use Rattle.joins.proofs.Everywhere.{everywhere-within}
 use borrow.Author.Needs.{needs}
 use Rattle.joins.proofs.close.Statement.{statement}
 use Rattle.joins.proofs.close.Tie as tie
 
-pass-over-all-requires : tie.Need-pass-over-all-requires
-pass-over-all-requires c κs = search needs
+is-connected-requires : tie.Need-is-connected-requires
+is-connected-requires c κs = search needs
 
-clear-own-requires : tie.Need-clear-own-requires
-clear-own-requires c κs = search needs
+all-links-requires : tie.Need-all-links-requires
+all-links-requires c κs = search needs
+
+write-rows-requires : tie.Need-write-rows-requires
+write-rows-requires c κs = search needs
 
 same-length : tie.Need-same-length
 same-length c = search needs
 
 returns : tie.Need-returns
-unfolding closed
 returns c =
-    let c9 = c .before .before .before .before .before .before .before .before .before in
-    c .before .before .clear-own .ensures ∙ ap (λ (x : List ℕ). tab (clearRow x) (c9 .args .n))
-    (c .before .before .before .before .before .before .pass-over-all .ensures) ∙ closed-within _ _ (c9 .pre .0)
+    let c2 = c .before .before in
+    let c4 = c2 .before .before in
+    let c6 = c4 .before .before in
+    let c10 = c6 .before .before .before .before in
+    c2 .write-rows .ensures ∙ ap (λ (x : ℕ). tab (without x) (c10 .args .n)) (c4 .all-links .ensures)
+    ∙ everywhere-within _ _ (c10 .pre .0) (tr (sym (c6 .if1 .taken) ∙ c6 .before .is-connected .ensures) tt)
+
+close-by-passes-requires : tie.Need-close-by-passes-requires
+close-by-passes-requires c κs = search needs
+
+same-length-2 : tie.Need-same-length-2
+same-length-2 c = search needs
+
+returns-2 : tie.Need-returns-2
+returns-2 c = search needs
 
 pub close-spec : {M : Type 1} → statement M
-close-spec = tie.close (tie.spec pass-over-all-requires clear-own-requires same-length returns)
+close-spec =
+    tie.close
+    (tie.spec
+    is-connected-requires
+    all-links-requires
+    write-rows-requires
+    same-length
+    returns
+    close-by-passes-requires
+    same-length-2
+    returns-2)
