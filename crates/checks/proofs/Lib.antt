@@ -2,4 +2,5 @@
 pub mod Table
 pub mod Clean
 pub mod Masks
+pub mod AllOpen
 pub mod Lent

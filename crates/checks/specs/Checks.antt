@@ -6,7 +6,8 @@ use lib.Bits.{bitOr}
 use lib.Dec.{eqb, leb}
 use lib.ListN.{getD}
 use Rattle.model.specs.Recording.{link}
-use Rattle.lists.specs.Tab.{every}
+use Rattle.lists.specs.Tab.{tab, every}
+use Rattle.links.specs.Tables.{without}
 
 -- the allowed bits over n boards: those below n
 unfoldable pub allowed : ℕ → ℕ
@@ -26,3 +27,10 @@ listedRow footprint w u = eqb (bitOr (getD w u 0) (getD footprint u 0)) (getD fo
 
 unfoldable pub listed : ℕ → List ℕ → List ℕ → Bool
 listed n footprint w = every (listedRow footprint w) n
+
+-- row u of the pick with all links open: the allowed bits, but for its own
+unfoldable pub openRow : ℕ → ℕ → ℕ
+openRow n u = without (allowed n) u
+
+unfoldable pub allOpen : ℕ → List ℕ
+allOpen n = tab (openRow n) n

@@ -4,7 +4,7 @@ use mathlib.Core.List.{List, [], _∷_, _++_}
 use Prim.Native.Nat.{ℕ, zero, suc, _*_}
 use lib.ListN.{take, drop}
 use Rattle.lists.specs.Tab.{every}
-use Rattle.checks.specs.Checks.{clean}
+use Rattle.checks.specs.Checks.{clean, listed}
 
 -- the pick with k picks before it
 unfoldable pub lentPick : ℕ → List ℕ → ℕ → List ℕ
@@ -22,3 +22,10 @@ cleanPick n w k = clean n (lentPick n w k)
 -- none of the first k picks has one
 unfoldable pub cleanPicks : ℕ → List ℕ → ℕ → Bool
 cleanPicks n w k = every (cleanPick n w) k
+
+-- every link of the pick with k picks before it is in the list
+unfoldable pub listedPick : ℕ → List ℕ → List ℕ → ℕ → Bool
+listedPick n list w k = listed n list (lentPick n w k)
+
+unfoldable pub listedPicks : ℕ → List ℕ → List ℕ → ℕ → Bool
+listedPicks n list w k = every (listedPick n list w) k

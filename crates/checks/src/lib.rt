@@ -2,8 +2,9 @@
 ghost use mathlib.Core.Path.{_≡_};
 ghost use Prim.Native.Nat.{_*_, _≤_};
 ghost use lib.ListN.{length};
-ghost use Rattle.checks.specs.Checks.{allowed, clean, listed};
-ghost use Rattle.checks.specs.Lent.{cleanPicks};
+ghost use Rattle.lists.specs.Tab.{padded};
+ghost use Rattle.checks.specs.Checks.{allowed, clean, listed, allOpen};
+ghost use Rattle.checks.specs.Lent.{cleanPicks, listedPicks};
 
 // The allowed bits for each number of boards n, 0 to 32: those below n. Row a of n boards may hold them all but bit a.
 const ALLOWED: [u32; 33] = [
@@ -63,20 +64,6 @@ pub fn is_clean(words: &[u32], n: usize) -> bool
     bad == 0
 }
 
-// Whether none of the first m picks, n words each, has a forbidden bit.
-pub fn are_clean(words: &[u32], n: usize, m: usize) -> bool
-    requires { ⌜ (n ≤ 32) × ((m ≤ 4096) × (m * n ≤ length (now words))) ⌝ }
-    ensures { λ r. ⌜ r ≡ cleanPicks n (now (words .entry)) m ⌝ }
-{
-    for k in 0..m {
-        let at = k * n;
-        if !is_clean(&words[at..at + n], n) {
-            return false;
-        }
-    }
-    true
-}
-
 // Whether every link of a pick is in the footprint. The others are gathered.
 pub fn is_listed(footprint: &[u32], words: &[u32], n: usize) -> bool
     requires { ⌜ (n ≤ length (now footprint)) × (n ≤ length (now words)) ⌝ }
@@ -87,4 +74,50 @@ pub fn is_listed(footprint: &[u32], words: &[u32], n: usize) -> bool
         bad = bad | (words[u] & !footprint[u]);
     }
     bad == 0
+}
+
+// ---- many picks: a pick has no forbidden bit exactly when its links are among those of the pick with all links open
+
+// The rows of the pick with all links open: the allowed bits, but for the own one.
+fn write_all_open(out: &mut [u32], n: usize)
+    requires { ⌜ (n ≤ 32) × (n ≡ length (now out)) ⌝ }
+    ensures { λ _. ⌜ now (out .exit) ≡ allOpen n ⌝ }
+{
+    let bits = allowed_bits(n);
+    for u in 0..n {
+        out[u] = bits & !(1u32 << u);
+    }
+}
+
+// The same by value, and zeros up to 32.
+fn all_open(n: usize) -> [u32; 32]
+    requires { ⌜ n ≤ 32 ⌝ }
+    ensures { λ r. ⌜ r ≡ padded 32 (allOpen n) ⌝ }
+{
+    let mut rows = lists::no_words();
+    write_all_open(&mut rows[0..n], n);
+    rows
+}
+
+// Whether every link of the first m picks, n words each, is in a list of links.
+fn are_listed(list: &[u32], words: &[u32], n: usize, m: usize) -> bool
+    requires { ⌜ (n ≤ 32) × ((m ≤ 4096) × ((n ≤ length (now list)) × (m * n ≤ length (now words)))) ⌝ }
+    ensures { λ r. ⌜ r ≡ listedPicks n (now (list .entry)) (now (words .entry)) m ⌝ }
+{
+    for k in 0..m {
+        let at = k * n;
+        if !is_listed(list, &words[at..at + n], n) {
+            return false;
+        }
+    }
+    true
+}
+
+// Whether none of the first m picks, n words each, has a forbidden bit. The rows are made once for all of them.
+pub fn are_clean(words: &[u32], n: usize, m: usize) -> bool
+    requires { ⌜ (n ≤ 32) × ((m ≤ 4096) × (m * n ≤ length (now words))) ⌝ }
+    ensures { λ r. ⌜ r ≡ cleanPicks n (now (words .entry)) m ⌝ }
+{
+    let rows = all_open(n);
+    are_listed(&rows[0..n], words, n, m)
 }
