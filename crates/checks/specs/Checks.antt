@@ -28,9 +28,6 @@ listedRow footprint w u = eqb (bitOr (getD w u 0) (getD footprint u 0)) (getD fo
 unfoldable pub listed : ℕ → List ℕ → List ℕ → Bool
 listed n footprint w = every (listedRow footprint w) n
 
--- row u of the pick with all links open: the allowed bits, but for its own
-unfoldable pub openRow : ℕ → ℕ → ℕ
-openRow n u = without (allowed n) u
-
+-- the pick with all links open: each row has the allowed bits, but for its own
 unfoldable pub allOpen : ℕ → List ℕ
-allOpen n = tab (openRow n) n
+allOpen n = tab (without (allowed n)) n

@@ -5,6 +5,7 @@ ghost use lib.ListN.{length};
 ghost use Rattle.lists.specs.Tab.{padded};
 ghost use Rattle.checks.specs.Checks.{allowed, clean, listed, allOpen};
 ghost use Rattle.checks.specs.Lent.{cleanPicks, listedPicks};
+use model::Board;
 
 // The allowed bits for each number of boards n, 0 to 32: those below n. Row a of n boards may hold them all but bit a.
 const ALLOWED: [u32; 33] = [
@@ -51,15 +52,16 @@ fn allowed_bits(n: usize) -> u32
     ALLOWED[n]
 }
 
-// Whether n words have no forbidden bit, of board n or above or their own. Such bits are gathered, so that the loop has no branch.
+// Whether n words have no forbidden bit, of board n or above or their own: none outside the row of the pick with all links open. Such bits are
+// gathered, so that the loop has no branch.
 pub fn is_clean(words: &[u32], n: usize) -> bool
     requires { ⌜ (n ≤ 32) × (n ≤ length (now words)) ⌝ }
     ensures { λ r. ⌜ r ≡ clean n (now (words .entry)) ⌝ }
 {
-    let above = !allowed_bits(n);
+    let bits = allowed_bits(n);
     let mut bad = 0u32;
     for u in 0..n {
-        bad = bad | (words[u] & ((1u32 << u) | above));
+        bad = bad | (words[u] & !links::cleared(bits, Board(u)));
     }
     bad == 0
 }
@@ -76,26 +78,16 @@ pub fn is_listed(footprint: &[u32], words: &[u32], n: usize) -> bool
     bad == 0
 }
 
-// ---- many picks: a pick has no forbidden bit exactly when its links are among those of the pick with all links open
+// ---- many picks
 
-// The rows of the pick with all links open: the allowed bits, but for the own one.
-fn write_all_open(out: &mut [u32], n: usize)
-    requires { ⌜ (n ≤ 32) × (n ≡ length (now out)) ⌝ }
-    ensures { λ _. ⌜ now (out .exit) ≡ allOpen n ⌝ }
-{
-    let bits = allowed_bits(n);
-    for u in 0..n {
-        out[u] = bits & !(1u32 << u);
-    }
-}
-
-// The same by value, and zeros up to 32.
+// The pick with all links open, and zeros up to 32: each row has the allowed bits but for its own.
 fn all_open(n: usize) -> [u32; 32]
     requires { ⌜ n ≤ 32 ⌝ }
     ensures { λ r. ⌜ r ≡ padded 32 (allOpen n) ⌝ }
 {
+    let row = allowed_bits(n);
     let mut rows = lists::no_words();
-    write_all_open(&mut rows[0..n], n);
+    links::fill_rows(&mut rows[0..n], row, n);
     rows
 }
 

@@ -10,13 +10,6 @@ use Rattle.folds.specs.Folds.{better}
 
 -- ---- the earlier time, by words less one
 
--- a word less one: one less, or the largest for 0
-wrapped : (a x : ℕ) → a < 2 ^ 32 → (a + 1) % 2 ^ 32 ≡ x → (x ≡ 0 → ⊥) → x ≡ a + 1
-wrapped a x h e ne = omega arith
-
-wrapped-none : (a x : ℕ) → a < 2 ^ 32 → (a + 1) % 2 ^ 32 ≡ x → x ≡ 0 → a + 1 ≡ 2 ^ 32
-wrapped-none a x h e z = omega arith
-
 module _ (a b x y : ℕ) (ha : a < 2 ^ 32) (hb : b < 2 ^ 32) (ea : (a + 1) % 2 ^ 32 ≡ x) (eb : (b + 1) % 2 ^ 32 ≡ y) where
   pub sooner-first : a ≤ b → x ≡ sooner x y
   unfolding sooner

@@ -5,10 +5,11 @@ use mathlib.Core.List.{List}
 use Prim.Native.Nat.{ℕ, suc, _+_}
 use native.Mathlib.Numerals.{add-one}
 use native.Mathlib.Omega.{arith}
-use lib.Bits.{bitOr, or-zero-r, or-add-and, and-le-l, and-le-r}
+use lib.Bits.{bitOr, or-zero-r}
 use lib.ListN.{length, getD}
 use lib.Seq.{ext-getD}
 use Rattle.model.specs.Recording.{bit, link}
+use Rattle.model.proofs.Bits.{or-none}
 use Rattle.lists.specs.Tab.{tab, kept}
 use Rattle.lists.proofs.Tab.{tab-ext, length-tab, getD-tab}
 use Rattle.links.specs.Tables.{eitherRow, union, without, gathered, throughRow, composeRow, compose}
@@ -30,14 +31,6 @@ through-next s t n k =
 kept-none : (b : Bool) {x : ℕ} → x ≡ 0 → kept b x ≡ 0
 kept-none true z = z
 kept-none false z = refl
-
--- words or-ed together are 0 where each is
-or-none : (a b : ℕ) → bitOr a b ≡ 0 → (a ≡ 0) × (b ≡ 0)
-or-none a b z =
-    let e = or-add-and a b in
-    let l = and-le-l a b in
-    let r = and-le-r a b in
-    (omega arith, omega arith)
 
 -- a row without links adds nothing
 pub no-column : (out s : List ℕ) (row w n : ℕ) → row ≡ 0 → n ≡ length out → out ≡ tab (columnRow out s row w) n

@@ -1,4 +1,3 @@
 -- Definitions that the contracts of `joins` cite.
 pub mod Columns
 pub mod Warshall
-pub mod Everywhere

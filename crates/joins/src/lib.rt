@@ -4,22 +4,10 @@ ghost use mathlib.Core.Path.{_≡_};
 ghost use Prim.Native.Nat.{_+_, _≤_, _<_};
 ghost use lib.ListN.{length};
 ghost use Rattle.lists.specs.Tab.{tab, padded};
-ghost use Rattle.links.specs.Tables.{without, union, throughRow, compose, within};
+ghost use Rattle.links.specs.Tables.{union, throughRow, compose, within};
 ghost use Rattle.joins.specs.Columns.{columnRow, fourRow};
 ghost use Rattle.joins.specs.Warshall.{pass, passes, clearRow};
-ghost use Rattle.joins.specs.Everywhere.{united};
 use model::Board;
-
-// ---- own bits
-
-// x, with bit b clear.
-fn cleared(x: u32, b: Board) -> u32
-    requires { ⌜ b .0 < 32 ⌝ }
-    ensures { λ r. ⌜ r ≡ without x (b .0) ⌝ }
-{
-    let v = b.0;
-    x & !(1u32 << v)
-}
 
 // The bits of the boards' own links are cleared.
 fn clear_own(t: &mut [u32], n: usize)
@@ -27,7 +15,7 @@ fn clear_own(t: &mut [u32], n: usize)
     ensures { λ _. ⌜ now (t .exit) ≡ tab (clearRow (now (t .entry))) n ⌝ }
 {
     for u in 0..n {
-        t[u] = cleared(t[u], Board(u));
+        t[u] = links::cleared(t[u], Board(u));
     }
 }
 
@@ -139,37 +127,15 @@ fn close_by_passes(t: &mut [u32], n: usize)
     clear_own(t, n);
 }
 
-// The boards that some link leads to.
-fn all_links(t: &[u32], n: usize) -> u32
-    requires { ⌜ n ≤ length (now t) ⌝ }
-    ensures { λ r. ⌜ r ≡ united (now (t .entry)) n ⌝ }
-{
-    let mut s = 0u32;
-    for w in 0..n {
-        s = s | t[w];
-    }
-    s
-}
-
-// Each row becomes the same boards, its own bit clear.
-fn write_rows(t: &mut [u32], boards: u32, n: usize)
-    requires { ⌜ (n ≤ 32) × (n ≡ length (now t)) ⌝ }
-    ensures { λ _. ⌜ now (t .exit) ≡ tab (without boards) n ⌝ }
-{
-    for u in 0..n {
-        t[u] = cleared(boards, Board(u));
-    }
-}
-
 // The pairs joined within one pick. Where links lead from every board to every other, each gets to all boards that some link leads to: two
 // searches tell, and no pass is made.
-pub fn close(t: &mut [u32], n: usize)
+fn close(t: &mut [u32], n: usize)
     requires { ⌜ (n ≤ 32) × (n ≡ length (now t)) ⌝ }
     ensures { λ _. ⌜ now (t .exit) ≡ within n 31 (now (t .entry)) ⌝ }
 {
     if searches::is_connected(t, n) {
-        let boards = all_links(t, n);
-        write_rows(t, boards, n);
+        let boards = lists::any_of(t, n);
+        links::fill_rows(t, boards, n);
         return;
     }
     close_by_passes(t, n);

@@ -12,7 +12,6 @@ use Rattle.model.specs.Journey.{atMost}
 use Rattle.model.specs.Measures.{CommonLink, PassesCommon, SomeLink, PassesFootprint, PassesReach, PassesRoundTrip}
 use Rattle.model.specs.Length.{Upward}
 use Rattle.model.proofs.Logic.{dec-of}
-use Rattle.model.proofs.Lengths.{Decided}
 use Rattle.model.proofs.Monotone.{JourneysDecided, round-up}
 use Rattle.model.proofs.Links.{link-from, link-to}
 use Rattle.model.proofs.Windows.{pick-at}
@@ -27,14 +26,6 @@ use Rattle.law.specs.Faithful.{Faithful, windowTable, window-tells}
 -- the test of K against the footprint tells whether a window passes
 abbrev pub Tested : Kit → List ℕ → List (List ℕ) → (ℕ → ℕ → List ℕ → Type 0) → (ℕ → ℕ → Type 0) → Type 0
 Tested K footprint r Tells P = (i j : ℕ) (t : List ℕ) → 1 ≤ i → i ≤ j → j ≤ length r → Tells i j t → T (K .pass footprint t) ↔ P i j
-
--- where the tables tell the truth and the test tells who passes, passing is decided
-pub decided : (K : Kit) (footprint : List ℕ) (r : List (List ℕ)) (Tells : ℕ → ℕ → List ℕ → Type 0) (P : ℕ → ℕ → Type 0)
-    → Faithful (K .join) (K .own) r Tells → Tested K footprint r Tells P → Decided P (length r)
-decided K footprint r Tells P law test i j a b c =
-    let t = windowTable (K .join) (K .own) r i j in
-    let e = test i j t a b c (window-tells (K .join) (K .own) r Tells law i j a b c) in
-    dec-of (K .pass footprint t) (e .0) (e .1)
 
 module _ (hops turn n : ℕ) (n32 : n ≤ 32) (r : List (List ℕ)) (rec : Recording n r) where
   -- ---- measure 1: the table marks the links open at every pick

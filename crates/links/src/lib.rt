@@ -3,7 +3,8 @@ ghost use mathlib.Core.Path.{_≡_};
 ghost use Prim.Native.Nat.{_≤_, _<_};
 ghost use lib.ListN.{length};
 ghost use Rattle.model.specs.Recording.{bit};
-ghost use Rattle.links.specs.Tables.{intersection, union, same};
+ghost use Rattle.lists.specs.Tab.{tab};
+ghost use Rattle.links.specs.Tables.{without, intersection, union, same};
 use model::Board;
 
 // Whether bit b of x is set.
@@ -13,6 +14,25 @@ pub fn linked(x: u32, b: Board) -> bool
 {
     let v = b.0;
     (x >> v) % 2 == 1
+}
+
+// x, with bit b clear.
+pub fn cleared(x: u32, b: Board) -> u32
+    requires { ⌜ b .0 < 32 ⌝ }
+    ensures { λ r. ⌜ r ≡ without x (b .0) ⌝ }
+{
+    let v = b.0;
+    x & !(1u32 << v)
+}
+
+// Every row of out becomes the same boards, but for its own bit.
+pub fn fill_rows(out: &mut [u32], boards: u32, n: usize)
+    requires { ⌜ (n ≤ 32) × (n ≡ length (now out)) ⌝ }
+    ensures { λ _. ⌜ now (out .exit) ≡ tab (without boards) n ⌝ }
+{
+    for u in 0..n {
+        out[u] = cleared(boards, Board(u));
+    }
 }
 
 // ---- compositions: each writes one table over the n words of out

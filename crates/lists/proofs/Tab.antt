@@ -1,5 +1,5 @@
 -- Laws of lists made by index, and the invariants of the loops that write them. Assumes nothing.
-use mathlib.Core.Path.{_≡_, refl, ap, _∙_, sym}
+use mathlib.Core.Path.{_≡_, refl, ap, ap₂, _∙_, sym}
 use mathlib.Core.Bool.{Bool, true, false, _&&_}
 use mathlib.Core.List.{List, [], _∷_, _++_, append-nil, append-assoc}
 use Prim.Native.Nat.{ℕ, zero, suc, _+_, _≤_, _<_, zero-le}
@@ -166,3 +166,9 @@ pub every-in : (f : ℕ → Bool) (n : ℕ) → ((w : ℕ) → w < n → T (f w)
 unfolding every
 every-in f zero h = tt
 every-in f (suc n) h = and-both (every f n) (f n) (every-in f n (λ w l. h w (omega arith))) (h n (omega arith))
+
+-- tests that agree below k
+pub every-ext : (f g : ℕ → Bool) (k : ℕ) → ((i : ℕ) → i < k → f i ≡ g i) → every f k ≡ every g k
+unfolding every
+every-ext f g zero h = refl
+every-ext f g (suc k) h = ap₂ _&&_ (every-ext f g k (λ i l. h i (omega arith))) (h k (omega arith))

@@ -2,6 +2,7 @@
 use mathlib.Core.Bool.{Bool, true, false, _&&_}
 use mathlib.Core.List.{List, [], _∷_, _++_}
 use Prim.Native.Nat.{ℕ, zero, suc}
+use lib.Bits.{bitOr}
 use lib.ListN.{length, drop, replicate}
 
 -- f 0, f 1, .., f (k - 1)
@@ -21,6 +22,11 @@ zeros k = replicate k 0
 -- the words xs, and zeros up to k
 unfoldable pub padded : ℕ → List ℕ → List ℕ
 padded k xs = xs ++ drop (length xs) (zeros k)
+
+-- f 0, .., f (k - 1), or-ed
+unfoldable pub anyOf : (ℕ → ℕ) → ℕ → ℕ
+anyOf f zero = 0
+anyOf f (suc k) = bitOr (anyOf f k) (f k)
 
 -- f holds of each number below k
 unfoldable pub every : (ℕ → Bool) → ℕ → Bool

@@ -1,15 +1,27 @@
-// Words selected, copied and set to zero.
+// Words selected, or-ed, copied and set to zero.
 ghost use mathlib.Core.Path.{_≡_};
 ghost use Prim.Native.Nat.{_≤_};
-ghost use lib.ListN.{length};
+ghost use lib.ListN.{length, getD};
 ghost use lib.Dec.{eqb};
-ghost use Rattle.lists.specs.Tab.{kept, zeros, padded};
+ghost use Rattle.lists.specs.Tab.{kept, anyOf, zeros, padded};
 
 // x where a bit is 1, else 0: a select, so that a loop over it has no branch.
 pub fn keep(x: u32, digit: u32) -> u32
     ensures { λ r. ⌜ r ≡ kept (eqb digit 1) x ⌝ }
 {
     if digit == 1 { x } else { 0 }
+}
+
+// The first n words, or-ed.
+pub fn any_of(words: &[u32], n: usize) -> u32
+    requires { ⌜ n ≤ length (now words) ⌝ }
+    ensures { λ r. ⌜ r ≡ anyOf (λ i. getD (now (words .entry)) i 0) n ⌝ }
+{
+    let mut any = 0u32;
+    for i in 0..n {
+        any = any | words[i];
+    }
+    any
 }
 
 // Copies words over out, which is as long.

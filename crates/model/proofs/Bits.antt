@@ -5,7 +5,7 @@ use native.Mathlib.Nat.{le-of-suc-le-suc, not-suc-le-zero, mod-lt, div-div-eq-di
 use native.Mathlib.Omega.{arith}
 use mathlib.Core.Bool.{Bool, true, false, _||_, _&&_, not}
 use lib.Dec.{T, eqb, eqb·zero-suc, eqb·suc-zero, eqb·suc-suc}
-use lib.Bits.{bitOr, bitAnd, or-step, and-step, or-shr, and-shr}
+use lib.Bits.{bitOr, bitAnd, or-step, and-step, or-shr, and-shr, or-add-and, and-le-l, and-le-r}
 use lib.Arith.{digits-mod}
 use lib.Pow.{pow-pos}
 use Rattle.model.specs.Recording.{bit}
@@ -99,3 +99,7 @@ bit-complement (suc k) x zero h l =
 bit-complement (suc k) x (suc b) h l =
     bit-suc (2 ^ suc k - 1 - x) b ∙ ap (λ (y : ℕ). bit y b) (let e : (2 ^ suc k - 1 - x) / 2 ≡ 2 ^ k - 1 - x / 2 = omega (arith, pow-pos k) in e)
     ∙ bit-complement k (x / 2) b (omega arith) (le-of-suc-le-suc l) ∙ ap not (sym (bit-suc x b))
+
+-- words or-ed together are 0 only where each is
+pub or-none : (a b : ℕ) → bitOr a b ≡ 0 → (a ≡ 0) × (b ≡ 0)
+or-none a b z = let e = or-add-and a b in let l = and-le-l a b in let r = and-le-r a b in (omega arith, omega arith)

@@ -83,9 +83,5 @@ every-agree e h f i j a b c = e i j a (omega arith) b .0 (f i j a b c)
 pub smallest-agree : {P Q : ℕ → ℕ → Type 0} {m k : ℕ} → Agree P Q m → Smallest P m k → Smallest Q m k
 smallest-agree e s = record { low = s .low; high = s .high; every = every-agree e (s .low) (s .every); least = λ l a b f. s .least l a b (every-agree (agree-back e) a f) }
 
-pub largest-agree : {P Q : ℕ → ℕ → Type 0} {m k : ℕ} → Agree P Q m → Largest P m k → Largest Q m k
-largest-agree {k = k} e s = let h = s .low in
-    record { low = h; high = s .high; every = every-agree e h (s .every); greatest = λ l a b f. s .greatest l a b (every-agree (agree-back e) (omega arith) f) }
-
 pub none-agree : {P Q : ℕ → ℕ → Type 0} {m : ℕ} → Agree P Q m → NoLength P m → NoLength Q m
 none-agree e f k a b g = f k a b (every-agree (agree-back e) a g)

@@ -215,10 +215,7 @@ journey-split r L i k j u v a b c d =
           (journey-trip r L i k u (p .0) a (omega arith) (omega arith) .0 (p .1)) (journey-trip r L (suc k) j (p .0) v (omega arith) (omega arith) d .0 (p .2)))),
     )
 
--- the boards of a journey are below n
-pub journey-from : (n : ℕ) (L : Limit) (r : List (List ℕ)) → Recording n r → (i j u v : ℕ) → 1 ≤ i → i ≤ suc j → j ≤ length r → v < n → Journey r L i j u v → u < n
-journey-from n L r k i j u v a b c hv f = trip-from n L (window r i j) (rec-window n i j r k) u v hv (journey-trip r L i j u v a b c .0 f)
-
+-- a journey ends at a board below n
 pub journey-to : (n : ℕ) (L : Limit) (r : List (List ℕ)) → Recording n r → (i j u v : ℕ) → 1 ≤ i → i ≤ suc j → j ≤ length r → u < n → Journey r L i j u v → v < n
 journey-to n L r k i j u v a b c hu f = trip-to n L (window r i j) (rec-window n i j r k) u v hu (journey-trip r L i j u v a b c .0 f)
 

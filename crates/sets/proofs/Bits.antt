@@ -5,18 +5,19 @@ use mathlib.Core.List.{List}
 use Prim.Native.Nat.{ℕ, zero, suc, _+_, _-_, _*_, _^_, _≤_, _<_}
 use native.Mathlib.Nat.{add-sub-cancel-left, le-refl, eq-or-lt-of-le, le-of-suc-le-suc}
 use native.Mathlib.Omega.{arith}
-use lib.Bits.{bitAnd, bitOr, or-add-and, and-le-l, and-le-r}
+use lib.Bits.{bitAnd, bitOr}
 use lib.Pow.{pow-pos}
 use mathlib.Core.Logic.{⊎-elim}
 use borrow.Author.Tests.{eq-eqb, ne-eqb, eqb-true}
-use Rattle.model.proofs.Bits.{bit-high, bit-or, bit-and, bit-one}
+use Rattle.model.proofs.Bits.{bit-high, bit-or, bit-and, bit-one, or-none}
 use Rattle.links.proofs.Bits.{bit-kept}
 use lib.Dec.{eqb}
 use lib.ListN.{getD, take, drop}
 use lib.Seq.{getD-take, getD-drop}
 use Rattle.model.specs.Recording.{bit}
 use Rattle.times.specs.Times.{cell}
-use Rattle.sets.specs.Marks.{markOf, anyOf, marks, someOf, setOf}
+use Rattle.lists.specs.Tab.{anyOf}
+use Rattle.sets.specs.Marks.{markOf, marks, someOf, setOf}
 
 -- ---- the same of a lent row as of the table
 
@@ -42,10 +43,6 @@ unfolding setOf
 set-lent n u some half = ap (λ (x : ℕ). bitAnd (bitOr x (2 ^ u)) some) (marks-ext _ _ n (row-cell n u half))
 
 -- ---- the bits
-
--- an or is 0 only of zeros
-or-none : (a b : ℕ) → bitOr a b ≡ 0 → (a ≡ 0) × (b ≡ 0)
-or-none a b e = let h = or-add-and a b in let l = and-le-l a b in let r = and-le-r a b in (omega arith, omega arith)
 
 any-none : (f : ℕ → ℕ) (n : ℕ) → anyOf f n ≡ 0 → (v : ℕ) → v < n → f v ≡ 0
 unfolding anyOf

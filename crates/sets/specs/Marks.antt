@@ -4,17 +4,12 @@ use mathlib.Core.List.{List}
 use Prim.Native.Nat.{ℕ, zero, suc, _^_}
 use lib.Bits.{bitAnd, bitOr}
 use lib.Dec.{eqb}
-use Rattle.lists.specs.Tab.{kept}
+use Rattle.lists.specs.Tab.{kept, anyOf}
 use Rattle.times.specs.Times.{cell}
 
 -- bit v, where x is a time
 unfoldable pub markOf : ℕ → ℕ → ℕ
 markOf x v = kept (not (eqb x 0)) (2 ^ v)
-
--- 0 where the first k times are none
-unfoldable pub anyOf : (ℕ → ℕ) → ℕ → ℕ
-anyOf f zero = 0
-anyOf f (suc k) = bitOr (anyOf f k) (f k)
 
 -- which of the first k times are some
 unfoldable pub marks : (ℕ → ℕ) → ℕ → ℕ

@@ -4,7 +4,7 @@ ghost use Prim.Native.Nat.{_*_, _≤_, _<_};
 ghost use lib.ListN.{length, getD};
 ghost use Rattle.lists.specs.Tab.{tab};
 ghost use Rattle.times.specs.Times.{cell};
-ghost use Rattle.sets.specs.Marks.{markOf, anyOf, marks, someOf, setOf};
+ghost use Rattle.sets.specs.Marks.{markOf, marks, someOf, setOf};
 use model::Board;
 
 // Bit b, where x is a time.
@@ -14,18 +14,6 @@ fn mark_of(x: u32, b: Board) -> u32
 {
     let v = b.0;
     if x == 0 { 0 } else { 1u32 << v }
-}
-
-// Not 0 where the row holds a time.
-fn row_any(row: &[u32], n: usize) -> u32
-    requires { ⌜ n ≤ length (now row) ⌝ }
-    ensures { λ r. ⌜ r ≡ anyOf (λ v. getD (now (row .entry)) v 0) n ⌝ }
-{
-    let mut any = 0u32;
-    for v in 0..n {
-        any = any | row[v];
-    }
-    any
 }
 
 // The boards at which the row has a time.
@@ -48,7 +36,7 @@ pub fn some_rows(half: &[u32], n: usize) -> u32
     let mut set = 0u32;
     for w in 0..n {
         let at = w * n;
-        set = set | mark_of(row_any(&half[at..at + n], n), Board(w));
+        set = set | mark_of(lists::any_of(&half[at..at + n], n), Board(w));
     }
     set
 }

@@ -179,10 +179,6 @@ stepped-framed p a w r h e =
     let b = r .bound in
     stepped-frame (kitOf p) (kit-wide (p .measure) (p .boards)) w (state p a) (r .able .room) (r .start) (omega arith) h (own-wide 31 (p .measure) (p .boards) (p .taken .0 + 1) w (sym e))
 
--- the length of the area
-pub stepped-long : (p : Place) (a w : List ℕ) → Ready p (length a) → p .taken .0 < p .limit → p .boards ≡ length w → length (stepped (kitOf p) w (state p a) .area) ≡ length a
-stepped-long p a w r h e = stepped-framed p a w r h e .size
-
 pub ready-on : {p q : Place} {words : ℕ} → Stepped p q → Ready p words → Ready q words
 ready-on s r =
     let m = s .taken in
@@ -198,12 +194,6 @@ ready-on s r =
       none-failed = λ z. absurd (omega arith);
       none-passed = λ z. absurd (omega arith);
     }
-
--- after a pick, over the definitions
-pub stepped-ready : (p : Place) (a w : List ℕ) → Ready p (length a) → p .taken .0 < p .limit → p .boards ≡ length w
-    → Ready (stepped (kitOf p) w (state p a) .place) (length (stepped (kitOf p) w (state p a) .area))
-stepped-ready p a w r h e =
-    subst (λ (n : ℕ). Ready (stepped (kitOf p) w (state p a) .place) n) (sym (stepped-long p a w r h e)) (ready-on (stepped-grown p a w r h) r)
 
 -- after a call of `step`, which keeps the length of the area
 pub step-leaves : {p q : Place} (a w : List ℕ) {b : List ℕ} → Ready p (length a) → p .taken .0 < p .limit → Does (stepped (kitOf p) w) p a q b → length b ≡ length a → Ready q (length b) × Stepped p q

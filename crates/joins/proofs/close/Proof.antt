@@ -13,11 +13,11 @@ use Rattle.joins.proofs.close.Tie as tie
 is-connected-requires : tie.Need-is-connected-requires
 is-connected-requires c κs = search needs
 
-all-links-requires : tie.Need-all-links-requires
-all-links-requires c κs = search needs
+any-of-requires : tie.Need-any-of-requires
+any-of-requires c κs = search needs
 
-write-rows-requires : tie.Need-write-rows-requires
-write-rows-requires c κs = search needs
+fill-rows-requires : tie.Need-fill-rows-requires
+fill-rows-requires c κs = search needs
 
 same-length : tie.Need-same-length
 same-length c = search needs
@@ -28,7 +28,7 @@ returns c =
     let c4 = c2 .before .before in
     let c6 = c4 .before .before in
     let c10 = c6 .before .before .before .before in
-    c2 .write-rows .ensures ∙ ap (λ (x : ℕ). tab (without x) (c10 .args .n)) (c4 .all-links .ensures)
+    c2 .fill-rows .ensures ∙ ap (λ (x : ℕ). tab (without x) (c10 .args .n)) (c4 .any-of .ensures)
     ∙ everywhere-within _ _ (c10 .pre .0) (tr (sym (c6 .if1 .taken) ∙ c6 .before .is-connected .ensures) tt)
 
 close-by-passes-requires : tie.Need-close-by-passes-requires
@@ -45,8 +45,8 @@ close-spec =
     tie.close
     (tie.spec
     is-connected-requires
-    all-links-requires
-    write-rows-requires
+    any-of-requires
+    fill-rows-requires
     same-length
     returns
     close-by-passes-requires

@@ -8,7 +8,8 @@ use native.Mathlib.Omega.{arith}
 use native.Mathlib.Numerals.{add-one}
 use Rattle.times.specs.Times.{cell}
 use Rattle.times.proofs.Rows.{row-le, part-length}
-use Rattle.sets.specs.Marks.{markOf, anyOf, marks, someOf}
+use Rattle.lists.specs.Tab.{anyOf}
+use Rattle.sets.specs.Marks.{markOf, marks, someOf}
 use Rattle.sets.proofs.Bits.{any-lent}
 use borrow.Author.Needs.{needs}
 use Rattle.sets.proofs.some_rows.Statement.{statement}
@@ -27,23 +28,23 @@ loop-holds c = search needs
 mul-at : tie.Need-mul-at Inv-loop μ-loop
 mul-at c = omega (arith, row-le _ (c .loop-test .taken))
 
-add-row-any : tie.Need-add-row-any Inv-loop μ-loop
-add-row-any c = omega (arith, row-le _ (c .loop-test .taken))
+add-any-of : tie.Need-add-any-of Inv-loop μ-loop
+add-any-of c = omega (arith, row-le _ (c .loop-test .taken))
 
-mul-row-any : tie.Need-mul-row-any Inv-loop μ-loop
-mul-row-any c = omega (arith, row-le _ (c .loop-test .taken))
+mul-any-of : tie.Need-mul-any-of Inv-loop μ-loop
+mul-any-of c = omega (arith, row-le _ (c .loop-test .taken))
 
-sub-row-any : tie.Need-sub-row-any Inv-loop μ-loop
-sub-row-any c = search needs
+sub-any-of : tie.Need-sub-any-of Inv-loop μ-loop
+sub-any-of c = search needs
 
-part-row-any-start : tie.Need-part-row-any-start Inv-loop μ-loop
-part-row-any-start c = search needs
+part-any-of-start : tie.Need-part-any-of-start Inv-loop μ-loop
+part-any-of-start c = search needs
 
-part-row-any-end : tie.Need-part-row-any-end Inv-loop μ-loop
-part-row-any-end c = omega (arith, row-le _ (c .loop-test .taken))
+part-any-of-end : tie.Need-part-any-of-end Inv-loop μ-loop
+part-any-of-end c = omega (arith, row-le _ (c .loop-test .taken))
 
-row-any-requires : tie.Need-row-any-requires Inv-loop μ-loop
-row-any-requires c κs = le-of-eq (part-length _ _ _ (omega (arith, row-le _ (c .before .loop-test .taken))))
+any-of-requires : tie.Need-any-of-requires Inv-loop μ-loop
+any-of-requires c κs = le-of-eq (part-length _ _ _ (omega (arith, row-le _ (c .before .loop-test .taken))))
 
 mark-of-requires : tie.Need-mark-of-requires Inv-loop μ-loop
 mark-of-requires c κs = search needs
@@ -61,7 +62,7 @@ loop-again c =
     let c6 = c4 .before .before in (
       search needs,
       rw (add-one (c4 .loop .w))
-          (ap₂ bitOr (c4 .loop .inv .1) (c .mark-of .ensures ∙ ap (λ (x : ℕ). markOf x (c4 .loop .w)) (c .before .row-any .ensures ∙ any-lent (c6 .args .n) (c4 .loop .w) (c6 .args .half .now)))),
+          (ap₂ bitOr (c4 .loop .inv .1) (c .mark-of .ensures ∙ ap (λ (x : ℕ). markOf x (c4 .loop .w)) (c .before .any-of .ensures ∙ any-lent (c6 .args .n) (c4 .loop .w) (c6 .args .half .now)))),
     )
 
 returns : tie.Need-returns Inv-loop μ-loop
@@ -76,12 +77,12 @@ some-rows-spec =
     μ-loop
     loop-holds
     mul-at
-    add-row-any
-    mul-row-any
-    sub-row-any
-    part-row-any-start
-    part-row-any-end
-    row-any-requires
+    add-any-of
+    mul-any-of
+    sub-any-of
+    part-any-of-start
+    part-any-of-end
+    any-of-requires
     mark-of-requires
     add-w
     loop-less

@@ -1,11 +1,11 @@
--- `joins::cleared` meets its contract. The shift `1u32 << v` is `(1 * 2 ^ v) % 2 ^ 32`: nothing is shifted out (`pow-lt`, `mod-eq-of-lt`).
+-- `links::cleared` meets its contract. The shift `1u32 << v` is `(1 * 2 ^ v) % 2 ^ 32`: nothing is shifted out (`pow-lt`, `mod-eq-of-lt`).
 -- Assumes nothing.
 use lib.Pow.{pow-lt}
 use native.Mathlib.Nat.{one-mul, mod-eq-of-lt}
 use Rattle.links.specs.Tables.{without}
 use borrow.Author.Needs.{needs}
-use Rattle.joins.proofs.cleared.Statement.{statement}
-use Rattle.joins.proofs.cleared.Tie as tie
+use Rattle.links.proofs.cleared.Statement.{statement}
+use Rattle.links.proofs.cleared.Tie as tie
 
 cast-result : tie.Need-cast-result
 cast-result c = search needs

@@ -1,20 +1,20 @@
--- `sets::row_any` meets its contract. The invariant is the definition at v.
+-- `lists::any_of` meets its contract. The invariant is the definition at i.
 -- Assumes nothing.
 use mathlib.Core.Path.{_≡_}
 use Prim.Native.Nat.{_-_, _≤_}
 use native.Mathlib.Omega.{arith}
 use native.Mathlib.Numerals.{add-one}
 use lib.ListN.{getD}
-use Rattle.sets.specs.Marks.{anyOf}
+use Rattle.lists.specs.Tab.{anyOf}
 use borrow.Author.Needs.{needs}
-use Rattle.sets.proofs.row_any.Statement.{statement}
-use Rattle.sets.proofs.row_any.Tie as tie
+use Rattle.lists.proofs.any_of.Statement.{statement}
+use Rattle.lists.proofs.any_of.Tie as tie
 
 abbrev Inv-loop : tie.InvT-loop
-Inv-loop row n any₀ v₀ any v = (v ≤ n) × (any ≡ anyOf (λ i. getD row i 0) v)
+Inv-loop words n any₀ i₀ any i = (i ≤ n) × (any ≡ anyOf (λ j. getD words j 0) i)
 
 abbrev μ-loop : tie.MeasureT-loop
-μ-loop row n any₀ v₀ any v = n - v
+μ-loop words n any₀ i₀ any i = n - i
 
 loop-holds : tie.Need-loop-holds Inv-loop μ-loop
 unfolding anyOf
@@ -26,21 +26,21 @@ mul-any c = search needs
 shared-slice-read-any : tie.Need-shared-slice-read-any Inv-loop μ-loop
 shared-slice-read-any c = search needs
 
-add-v : tie.Need-add-v Inv-loop μ-loop
-add-v c = search needs
+add-i : tie.Need-add-i Inv-loop μ-loop
+add-i c = search needs
 
 loop-less : tie.Need-loop-less Inv-loop μ-loop
 loop-less c = search needs
 
 loop-again : tie.Need-loop-again Inv-loop μ-loop
 unfolding anyOf
-loop-again c = (search needs, rw (add-one (c .before .before .loop .v), c .before .before .loop .inv .1))
+loop-again c = (search needs, rw (add-one (c .before .before .loop .i), c .before .before .loop .inv .1))
 
 returns : tie.Need-returns Inv-loop μ-loop
-returns c = let e : c .before .loop .v ≡ c .before .before .args .n = omega arith in rw e at (c .before .loop .inv .1)
+returns c = let e : c .before .loop .i ≡ c .before .before .args .n = omega arith in rw e at (c .before .loop .inv .1)
 
-pub row-any-spec : {M : Type 1} → statement M
-row-any-spec =
+pub any-of-spec : {M : Type 1} → statement M
+any-of-spec =
     tie.close
     (tie.spec
     Inv-loop
@@ -48,7 +48,7 @@ row-any-spec =
     loop-holds
     mul-any
     shared-slice-read-any
-    add-v
+    add-i
     loop-less
     loop-again
     returns)

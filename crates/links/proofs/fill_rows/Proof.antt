@@ -1,17 +1,17 @@
--- `joins::write_rows` meets its contract. The invariant is `Made`.
+-- `links::fill_rows` meets its contract. The invariant is `Made`.
 -- Assumes nothing.
 use Prim.Native.Nat.{_-_}
 use Rattle.lists.proofs.Tab.{Made, made-start, made-turn, made-all}
 use Rattle.links.specs.Tables.{without}
 use borrow.Author.Needs.{needs}
-use Rattle.joins.proofs.write_rows.Statement.{statement}
-use Rattle.joins.proofs.write_rows.Tie as tie
+use Rattle.links.proofs.fill_rows.Statement.{statement}
+use Rattle.links.proofs.fill_rows.Tie as tie
 
 abbrev Inv-loop : tie.InvT-loop
-Inv-loop t₀ boards n u₀ t u = Made (without boards) n t₀ t u
+Inv-loop out₀ boards n u₀ out u = Made (without boards) n out₀ out u
 
 abbrev μ-loop : tie.MeasureT-loop
-μ-loop t₀ boards n u₀ t u = n - u
+μ-loop out₀ boards n u₀ out u = n - u
 
 loop-holds : tie.Need-loop-holds Inv-loop μ-loop
 loop-holds c = made-start (c .before .pre .1)
@@ -19,11 +19,11 @@ loop-holds c = made-start (c .before .pre .1)
 cleared-requires : tie.Need-cleared-requires Inv-loop μ-loop
 cleared-requires c κs = search needs
 
-mul-t : tie.Need-mul-t Inv-loop μ-loop
-mul-t c = search needs
+mul-out : tie.Need-mul-out Inv-loop μ-loop
+mul-out c = search needs
 
-slice-write-t : tie.Need-slice-write-t Inv-loop μ-loop
-slice-write-t c = search needs
+slice-write-out : tie.Need-slice-write-out Inv-loop μ-loop
+slice-write-out c = search needs
 
 add-u : tie.Need-add-u Inv-loop μ-loop
 add-u c = search needs
@@ -40,16 +40,16 @@ same-length c = search needs
 returns : tie.Need-returns Inv-loop μ-loop
 returns c = made-all (c .before .loop .inv) (c .loop-test .left)
 
-pub write-rows-spec : {M : Type 1} → statement M
-write-rows-spec =
+pub fill-rows-spec : {M : Type 1} → statement M
+fill-rows-spec =
     tie.close
     (tie.spec
     Inv-loop
     μ-loop
     loop-holds
     cleared-requires
-    mul-t
-    slice-write-t
+    mul-out
+    slice-write-out
     add-u
     loop-less
     loop-again
