@@ -2,10 +2,10 @@
 -- they lead from board 0 to all and from all to board 0. Assumes nothing.
 use mathlib.Core.Path.{_≡_, sym, ap, _∙_, subst}
 use mathlib.Core.Logic.{_≢_, _⊎_, inl, inr, ⊎-elim}
-use mathlib.Core.Bool.{Bool, true, _||_, _&&_, not}
+use mathlib.Core.Bool.{Bool, false, true, _||_, _&&_, not}
 use mathlib.Core.List.{List}
 use Prim.Native.Nat.{ℕ, zero, suc, _+_, _-_, _/_, _%_, _^_, _≤_, _<_}
-use native.Mathlib.Nat.{not-suc-le-zero, le-of-suc-le-suc, eq-or-lt-of-le, lt-of-lt-of-le, le-of-lt, le-refl}
+use native.Mathlib.Nat.{add-zero, add-suc, not-suc-le-zero, le-of-suc-le-suc, eq-or-lt-of-le, lt-of-lt-of-le, le-of-lt, le-refl, le-trans}
 use native.Mathlib.Numerals.{add-one}
 use native.Mathlib.Omega.{arith}
 use lib.Bits.{bitAnd, bitOr}
@@ -13,21 +13,22 @@ use lib.Dec.{T, eqb, eqb→eq, eqb-refl}
 use lib.ListN.{getD}
 use lib.Pow.{pow-pos}
 use Rattle.model.specs.Recording.{bit, link}
-use Rattle.model.proofs.Logic.{tr, T→≡, bool-ext, or-l, or-r, or-cases, and-both, and-l, and-r, not-in, ne-eqb, eq-or, eq-refl}
+use Rattle.model.proofs.Logic.{tr, bool-ext, or-l, or-r, or-cases, and-both, and-l, and-r, not-in, ne-eqb, eq-or, eq-refl}
 use Rattle.model.proofs.Bits.{bit-zero, bit-suc, bit-high, bit-or, bit-and, bit-one}
 use Rattle.model.proofs.Ones.{all-in, all-out}
-use Rattle.lists.specs.Tab.{kept, every}
+use Rattle.lists.specs.Tab.{kept}
 use Rattle.lists.proofs.Tab.{every-in, every-out}
 use Rattle.links.specs.Tables.{within, pairFull, rowFull, full}
 use Rattle.links.proofs.Bits.{bit-kept}
 use Rattle.links.proofs.Ways.{Way, one, more, snoc, Short, last-link, within-way, way-short, Led, onward}
-use Rattle.searches.specs.Search.{spread, joined, collect, pairTo, columnFull}
+use Rattle.searches.specs.Search.{spread, joined, collect, turned, sidePair, sideFull}
+
+-- v is board 0, or links over boards below n lead from there to v, or with `back` from v to there
+abbrev Found : Bool → ℕ → List ℕ → ℕ → Type 0
+Found false n t v = (_≡_ {A = ℕ} 0 v) ⊎ Led t n 0 v
+Found true n t v = (_≡_ {A = ℕ} 0 v) ⊎ ((v < n) × Led t n v 0)
 
 -- ---- onward
-
--- board v is board 0, or links lead to it from there over boards below n
-abbrev pub From : ℕ → List ℕ → ℕ → Type 0
-From n t v = (_≡_ {A = ℕ} 0 v) ⊎ Led t n 0 v
 
 spread-step : (t : List ℕ) (s k v : ℕ) → bit (spread t s (suc k)) v ≡ bit (spread t s k) v || (bit (spread t s k) k && link t k v)
 unfolding spread link
@@ -58,12 +59,12 @@ spread-link t s (suc n) w v h m l =
     x : ℕ
     x = spread t s n
 
-from-next : {n w v : ℕ} {t : List ℕ} → w < n → From n t w → T (link t w v) → From n t v
+from-next : {n w v : ℕ} {t : List ℕ} → w < n → Found false n t w → T (link t w v) → Found false n t v
 from-next {v = v} {t = t} h (inl e) l = inr (1, one (subst (λ (x : ℕ). T (link t x v)) (sym e) l))
 from-next h (inr p) l = inr (suc (p .0), snoc (p .1) h l)
 
 -- what is found is there
-spread-from : (n : ℕ) (t : List ℕ) (s k : ℕ) → k ≤ n → ((v : ℕ) → T (bit s v) → From n t v) → (v : ℕ) → T (bit (spread t s k) v) → From n t v
+spread-from : (n : ℕ) (t : List ℕ) (s k : ℕ) → k ≤ n → ((v : ℕ) → T (bit s v) → Found false n t v) → (v : ℕ) → T (bit (spread t s k) v) → Found false n t v
 unfolding spread
 spread-from n t s zero h f v m = f v m
 spread-from n t s (suc k) h f v m =
@@ -75,10 +76,6 @@ spread-from n t s (suc k) h f v m =
     x = spread t s k
 
 -- ---- backward
-
--- board u is board 0, or links lead from it to there over boards below n
-abbrev pub To : ℕ → List ℕ → ℕ → Type 0
-To n t u = (_≡_ {A = ℕ} 0 u) ⊎ ((u < n) × Led t n u 0)
 
 -- a word that is not 0 has a bit
 some-bit : (m x : ℕ) → x < 2 ^ m → x ≢ 0 → (v : ℕ) × T (bit x v)
@@ -141,18 +138,18 @@ collect-link t s (suc n) w v h l m =
     x : ℕ
     x = collect t s n
 
-to-next : {n w v : ℕ} {t : List ℕ} → w < n → T (link t w v) → To n t v → To n t w
+to-next : {n w v : ℕ} {t : List ℕ} → w < n → T (link t w v) → Found true n t v → Found true n t w
 to-next {w = w} {t = t} h l (inl e) = inr (h, (1, one (subst (λ (x : ℕ). T (link t w x)) (sym e) l)))
 to-next h l (inr p) = inr (h, (suc (p .1 .0), more l (p .0) (p .1 .1)))
 
-collect-to : (n : ℕ) (t : List ℕ) (s k : ℕ) → k ≤ n → ((u : ℕ) → T (bit s u) → To n t u) → (u : ℕ) → T (bit (collect t s k) u) → To n t u
+collect-to : (n : ℕ) (t : List ℕ) (s k : ℕ) → k ≤ n → ((u : ℕ) → T (bit s u) → Found true n t u) → (u : ℕ) → T (bit (collect t s k) u) → Found true n t u
 unfolding collect link
 collect-to n t s zero h f u m = f u m
 collect-to n t s (suc k) h f u m =
     let ih = collect-to n t s k (le-of-lt h) f in
     ⊎-elim (ih u) (λ (b : T (meets row x && eqb k u)).
     let q = meets-out row x (and-l (meets row x) (eqb k u) b) in
-    subst (To n t) (eqb→eq k u (and-r (meets row x) (eqb k u) b)) (to-next h (q .1) (ih (q .0) (q .2))))
+    subst (Found true n t) (eqb→eq k u (and-r (meets row x) (eqb k u) b)) (to-next h (q .1) (ih (q .0) (q .2))))
     (or-cases (bit x u) (meets row x && eqb k u) (tr (collect-step t s k u) m))
   where
     x : ℕ
@@ -161,19 +158,18 @@ collect-to n t s (suc k) h f u m =
     row : ℕ
     row = getD t k 0
 
--- ---- the searches
+-- ---- the searches: onward, or with `back` backward
 
--- The invariant of a search: s has board 0, boards of R alone, and those at most k links away; P c v says that v is c links away.
-pub record Seen (n : ℕ) (R : ℕ → Type 0) (P : ℕ → ℕ → Type 0) (s k : ℕ) : Type 0 where
-  pub first : T (bit s 0)
-  pub sound : (v : ℕ) → T (bit s v) → R v
-  pub far : (c v : ℕ) → v < n → c ≤ k → P c v → T (bit s v)
+-- c links over boards below n lead from board 0 to v, or with `back` from v to board 0
+abbrev Away : Bool → ℕ → List ℕ → ℕ → ℕ → Type 0
+Away false n t c v = Way t n c 0 v
+Away true n t c v = Way t n c v 0
 
-abbrev pub Onto : ℕ → List ℕ → ℕ → ℕ → Type 0
-Onto n t c v = Way t n c 0 v
-
-abbrev pub Back : ℕ → List ℕ → ℕ → ℕ → Type 0
-Back n t c u = Way t n c u 0
+-- The invariant of a search: s has board 0, boards of `Found` alone, and those at most k links away.
+pub record Seen (back : Bool) (n : ℕ) (t : List ℕ) (s k : ℕ) : Type 0 where
+  first : T (bit s 0)
+  sound : (v : ℕ) → T (bit s v) → Found back n t v
+  far : (c v : ℕ) → v < n → c ≤ k → Away back n t c v → T (bit s v)
 
 none : {t : List ℕ} {b c u v : ℕ} → Way t b c u v → c ≤ 0 → ⊥
 none (one l) h = not-suc-le-zero h
@@ -185,23 +181,19 @@ zero-first = tr (sym (bit-one 0 0)) (eqb-refl 0)
 first-only : (v : ℕ) → T (bit 1 v) → _≡_ {A = ℕ} 0 v
 first-only v m = eqb→eq 0 v (tr (bit-one 0 v) m)
 
-pub onward-start : (n : ℕ) (t : List ℕ) → Seen n (From n t) (Onto n t) 1 0
-onward-start n t = record { first = zero-first; sound = λ v m. inl (first-only v m); far = λ c v h l p. absurd (none p l) }
+pub seen-start : (back : Bool) (n : ℕ) (t : List ℕ) → Seen back n t 1 0
+seen-start false n t = record { first = zero-first; sound = λ v m. inl (first-only v m); far = λ c v h l p. absurd (none p l) }
+seen-start true n t = record { first = zero-first; sound = λ v m. inl (first-only v m); far = λ c v h l p. absurd (none p l) }
 
-pub backward-start : (n : ℕ) (t : List ℕ) → Seen n (To n t) (Back n t) 1 0
-backward-start n t = record { first = zero-first; sound = λ v m. inl (first-only v m); far = λ c v h l p. absurd (none p l) }
-
-pub onward-next : (n : ℕ) (t : List ℕ) (s k : ℕ) → Seen n (From n t) (Onto n t) s k → Seen n (From n t) (Onto n t) (spread t s n) (k + 1)
-onward-next n t s k m = record {
+pub seen-next : {back : Bool} {n s k : ℕ} {t : List ℕ} → Seen back n t s k → Seen back n t (turned back t s n) (k + 1)
+seen-next {back = false} {n} {s} {k} {t} m = record {
   first = spread-grow t s n 0 (m .first);
   sound = spread-from n t s n (le-refl n) (m .sound);
   far = λ c v h l p. let q : c ≤ suc k = omega arith in
       ⊎-elim (λ (a : T (link t 0 v)). spread-link t s n 0 v (omega arith) (m .first) a)
       (λ (a : (w : ℕ) × (w < n) × Short n k t 0 w × T (link t w v)). spread-link t s n (a .0) v (a .1) (m .far (a .2 .0) (a .0) (a .1) (a .2 .1) (a .2 .2)) (a .3)) (last-link q p);
 }
-
-pub backward-next : (n : ℕ) (t : List ℕ) (s k : ℕ) → Seen n (To n t) (Back n t) s k → Seen n (To n t) (Back n t) (collect t s n) (k + 1)
-backward-next n t s k m = record {
+seen-next {back = true} {n} {s} {k} {t} m = record {
   first = collect-grow t s n 0 (m .first);
   sound = collect-to n t s n (le-refl n) (m .sound);
   far = λ c u h l p. let q : c ≤ suc k = omega arith in go h q p;
@@ -211,46 +203,12 @@ backward-next n t s k m = record {
     go {u = u} h q (one l) = collect-link t s n u 0 h l (m .first)
     go {u = u} h q (more {c = c} {w = w} l j p) = collect-link t s n u w h l (m .far c w j (le-of-suc-le-suc q) p)
 
--- a search that finds no more has found all
-pub onward-end : (n : ℕ) (t : List ℕ) (s : ℕ) → spread t s n ≡ s → T (bit s 0) → (c v : ℕ) → v < n → Way t n c 0 v → T (bit s v)
-onward-end n t s e m c v h p = go (omega arith) m p
-  where
-    follow : (u w : ℕ) → u < n → T (bit s u) → T (link t u w) → T (bit s w)
-    follow u w j b l = subst (λ (x : ℕ). T (bit x w)) e (spread-link t s n u w j b l)
+-- a search that finds no more in a turn finds no more at all
+pub seen-stays : {back : Bool} {n s k : ℕ} {t : List ℕ} → turned back t s n ≡ s → Seen back n t s k → (j : ℕ) → Seen back n t s (k + j)
+seen-stays e m zero = rw add-zero m
+seen-stays e m (suc j) = rw add-suc (rw (e, add-one) at (seen-next (seen-stays e m j)))
 
-    go : {c u : ℕ} → u < n → T (bit s u) → Way t n c u v → T (bit s v)
-    go {u = u} j b (one l) = follow u v j b l
-    go {u = u} j b (more {w = w} l i q) = go i (follow u w j b l) q
-
-pub backward-end : (n : ℕ) (t : List ℕ) (s : ℕ) → collect t s n ≡ s → T (bit s 0) → (c u : ℕ) → u < n → Way t n c u 0 → T (bit s u)
-backward-end n t s e m c u h p = go h p
-  where
-    follow : (u w : ℕ) → u < n → T (link t u w) → T (bit s w) → T (bit s u)
-    follow u w j l b = subst (λ (x : ℕ). T (bit x u)) e (collect-link t s n u w j l b)
-
-    go : {c u : ℕ} → u < n → Way t n c u 0 → T (bit s u)
-    go {u = u} j (one l) = follow u 0 j l m
-    go {u = u} j (more {w = w} l i q) = follow u w j l (go i q)
-
--- ---- what a search tells: f v is the test for board v
-
--- f holds of what the search may find, and that is all of which f holds
-pub record Test (n : ℕ) (R : ℕ → Type 0) (P : ℕ → ℕ → Type 0) (f : ℕ → Bool) : Type 0 where
-  pub up : (v : ℕ) → v < n → R v → T (f v)
-  pub down : (v : ℕ) → v < n → T (f v) → (_≡_ {A = ℕ} 0 v) ⊎ ((c : ℕ) × (c ≤ 31) × P c v)
-
-module _ (n s : ℕ) {R : ℕ → Type 0} {P : ℕ → ℕ → Type 0} {k : ℕ} {f : ℕ → Bool} (g : Test n R P f) (m : Seen n R P s k) where
-  -- it has all boards
-  pub seen-all : bitAnd s (2 ^ n - 1) ≡ 2 ^ n - 1 → every f n ≡ true
-  seen-all e = T→≡ (every f n) (every-in f n (λ v h. g .up v h (m .sound v (all-out n s e v h))))
-
-  -- it has all that there are
-  pub seen-end : ((c v : ℕ) → v < n → c ≤ 31 → P c v → T (bit s v)) → eqb (bitAnd s (2 ^ n - 1)) (2 ^ n - 1) ≡ every f n
-  seen-end w =
-      bool-ext (eqb (bitAnd s (2 ^ n - 1)) (2 ^ n - 1)) (every f n)
-      (λ e. every-in f n (λ v h. g .up v h (m .sound v (all-out n s (eqb→eq (bitAnd s (2 ^ n - 1)) (2 ^ n - 1) e) v h))))
-      (λ e. eq-refl (all-in n s (λ v h. ⊎-elim (λ (z : _≡_ {A = ℕ} 0 v). subst (λ (x : ℕ). T (bit s x)) z (m .first))
-      (λ (q : (c : ℕ) × (c ≤ 31) × P c v). w (q .0) v h (q .1) (q .2)) (g .down v h (every-out f n e v h)))))
+-- ---- what a search tells
 
 -- a marked pair of the closure, as ways
 pair-in : (n : ℕ) (t : List ℕ) (u v : ℕ) → n ≤ 32 → u < n → v < n → Led t n u v → T (pairFull (within n 31 t) u v)
@@ -269,29 +227,43 @@ pair-same : (t : List ℕ) {u v : ℕ} → u ≡ v → T (pairFull t u v)
 unfolding pairFull
 pair-same t {u} {v} e = or-l (eqb u v) (link t u v) (eq-refl e)
 
-pub onward-test : (n : ℕ) (t : List ℕ) → n ≤ 32 → Test n (From n t) (Onto n t) (pairFull (within n 31 t) 0)
-onward-test n t n32 = record {
-  up = λ v h r. ⊎-elim (pair-same (within n 31 t)) (pair-in n t 0 v n32 (omega arith) h) r;
-  down = λ v h m. pair-out n t 0 v n32 (omega arith) h m;
-}
+-- what is found is marked
+up : (back : Bool) (n : ℕ) (t : List ℕ) (v : ℕ) → n ≤ 32 → v < n → Found back n t v → T (sidePair back (within n 31 t) v)
+up false n t v n32 h r = ⊎-elim (pair-same (within n 31 t)) (pair-in n t 0 v n32 (omega arith) h) r
+up true n t v n32 h r =
+    ⊎-elim (λ (e : _≡_ {A = ℕ} 0 v). pair-same (within n 31 t) (sym e)) (λ (p : (v < n) × Led t n v 0). pair-in n t v 0 n32 h (omega arith) (p .1)) r
 
-pub backward-test : (n : ℕ) (t : List ℕ) → n ≤ 32 → Test n (To n t) (Back n t) (pairTo (within n 31 t) 0)
-unfolding pairTo
-backward-test n t n32 = record {
-  up = λ u h r. ⊎-elim (λ (e : _≡_ {A = ℕ} 0 u). pair-same (within n 31 t) (sym e)) (λ (p : (u < n) × Led t n u 0). pair-in n t u 0 n32 h (omega arith) (p .1)) r;
-  down = λ u h m. ⊎-elim (λ (e : u ≡ 0). inl (sym e)) (λ (p : Short n 31 t u 0). inr p) (pair-out n t u 0 n32 h (omega arith) m);
-}
+-- what is marked is board 0, or at most 31 links away
+down : (back : Bool) (n : ℕ) (t : List ℕ) (v : ℕ) → n ≤ 32 → v < n → T (sidePair back (within n 31 t) v) → (_≡_ {A = ℕ} 0 v) ⊎ ((c : ℕ) × (c ≤ 31) × Away back n t c v)
+down false n t v n32 h m = pair-out n t 0 v n32 (omega arith) h m
+down true n t v n32 h m = ⊎-elim (λ (e : v ≡ 0). inl (sym e)) (λ (p : Short n 31 t v 0). inr p) (pair-out n t v 0 n32 h (omega arith) m)
+
+module _ {back : Bool} {n s k : ℕ} {t : List ℕ} (n32 : n ≤ 32) (m : Seen back n t s k) where
+  -- it has all boards
+  pub seen-all : bitAnd s (2 ^ n - 1) ≡ 2 ^ n - 1 → T (sideFull back n (within n 31 t))
+  unfolding sideFull
+  seen-all e = every-in (sidePair back (within n 31 t)) n (λ v h. up back n t v n32 h (m .sound v (all-out n s e v h)))
+
+  -- it has all that there are
+  pub seen-end : 31 ≤ k → eqb (bitAnd s (2 ^ n - 1)) (2 ^ n - 1) ≡ sideFull back n (within n 31 t)
+  unfolding sideFull
+  seen-end l =
+      bool-ext (eqb (bitAnd s (2 ^ n - 1)) (2 ^ n - 1)) (sideFull back n (within n 31 t))
+      (λ e. seen-all (eqb→eq (bitAnd s (2 ^ n - 1)) (2 ^ n - 1) e))
+      (λ e. eq-refl (all-in n s (λ v h. ⊎-elim (λ (z : _≡_ {A = ℕ} 0 v). subst (λ (x : ℕ). T (bit s x)) z (m .first))
+      (λ (q : (c : ℕ) × (c ≤ 31) × Away back n t c v). m .far (q .0) v h (le-trans (q .1) l) (q .2))
+      (down back n t v n32 h (every-out (sidePair back (within n 31 t)) n e v h)))))
 
 -- THEOREM. Links lead from every board to every other exactly when they lead from board 0 to all and from all to board 0.
-pub full-first : (n : ℕ) (t : List ℕ) → n ≤ 32 → full n (within n 31 t) ≡ rowFull n (within n 31 t) 0 && columnFull n (within n 31 t) 0
-unfolding full rowFull columnFull pairTo
+pub full-first : (n : ℕ) (t : List ℕ) → n ≤ 32 → full n (within n 31 t) ≡ sideFull false n (within n 31 t) && sideFull true n (within n 31 t)
+unfolding full rowFull sideFull
 full-first n t n32 =
-    bool-ext (full n c) (rowFull n c 0 && columnFull n c 0)
-    (λ m. and-both (rowFull n c 0) (columnFull n c 0)
-    (every-in (pairFull c 0) n (λ v h. every-out (pairFull c 0) n (every-out (rowFull n c) n m 0 (omega arith)) v h))
-    (every-in (pairTo c 0) n (λ u h. every-out (pairFull c u) n (every-out (rowFull n c) n m u h) 0 (omega arith))))
+    bool-ext (full n c) (sideFull false n c && sideFull true n c)
+    (λ m. and-both (sideFull false n c) (sideFull true n c)
+    (every-in (sidePair false c) n (λ v h. every-out (pairFull c 0) n (every-out (rowFull n c) n m 0 (omega arith)) v h))
+    (every-in (sidePair true c) n (λ u h. every-out (pairFull c u) n (every-out (rowFull n c) n m u h) 0 (omega arith))))
     (λ m. every-in (rowFull n c) n (λ u hu. every-in (pairFull c u) n (λ v hv. both u v hu hv
-    (every-out (pairTo c 0) n (and-r (rowFull n c 0) (columnFull n c 0) m) u hu) (every-out (pairFull c 0) n (and-l (rowFull n c 0) (columnFull n c 0) m) v hv))))
+    (every-out (sidePair true c) n (and-r (sideFull false n c) (sideFull true n c) m) u hu) (every-out (sidePair false c) n (and-l (sideFull false n c) (sideFull true n c) m) v hv))))
   where
     c : List ℕ
     c = within n 31 t

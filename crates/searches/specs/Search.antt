@@ -1,5 +1,5 @@
 -- Searches from board 0, as the code makes them: a word holds the boards found. `proofs/Search` has the laws.
-use mathlib.Core.Bool.{Bool, not}
+use mathlib.Core.Bool.{Bool, false, true, not}
 use mathlib.Core.List.{List}
 use Prim.Native.Nat.{ℕ, zero, suc, _^_}
 use lib.Bits.{bitAnd, bitOr}
@@ -23,9 +23,15 @@ unfoldable pub collect : List ℕ → ℕ → ℕ → ℕ
 collect t s zero = s
 collect t s (suc k) = joined (collect t s k) (getD t k 0) k
 
--- each pair to v is marked
-unfoldable pub pairTo : List ℕ → ℕ → ℕ → Bool
-pairTo t v u = pairFull t u v
+-- a turn of a search: onward, or with `back` backward
+abbrev pub turned : Bool → List ℕ → ℕ → ℕ → ℕ
+turned false t s n = spread t s n
+turned true t s n = collect t s n
 
-unfoldable pub columnFull : ℕ → List ℕ → ℕ → Bool
-columnFull n t v = every (pairTo t v) n
+-- the pair from board 0 to v is marked, or with `back` the pair from v to board 0
+abbrev pub sidePair : Bool → List ℕ → ℕ → Bool
+sidePair false t v = pairFull t 0 v
+sidePair true t v = pairFull t v 0
+
+unfoldable pub sideFull : Bool → ℕ → List ℕ → Bool
+sideFull back n t = every (sidePair back t) n

@@ -2,8 +2,8 @@
 ghost use mathlib.Core.Path.{_≡_};
 ghost use Prim.Native.Nat.{_-_, _^_, _≤_, _<_};
 ghost use lib.ListN.{length};
-ghost use Rattle.links.specs.Tables.{within, rowFull, full, connected};
-ghost use Rattle.searches.specs.Search.{spread, joined, collect, columnFull};
+ghost use Rattle.links.specs.Tables.{within, full, connected};
+ghost use Rattle.searches.specs.Search.{spread, joined, collect, turned, sideFull};
 use model::Board;
 
 // The word of the bits below n.
@@ -69,30 +69,22 @@ fn backward(t: &[u32], seen: u32, n: usize) -> u32
     s
 }
 
-// Whether links lead from board 0 to every other. The search ends when it has all boards or a turn finds no more; 32 turns are enough.
-fn leads_to_all(t: &[u32], n: usize) -> bool
+// A turn of a search: onward, or with back backward.
+fn turn(t: &[u32], seen: u32, n: usize, back: bool) -> u32
     requires { ⌜ (n ≤ 32) × (n ≤ length (now t)) ⌝ }
-    ensures { λ r. ⌜ r ≡ rowFull n (within n 31 (now (t .entry))) 0 ⌝ }
+    ensures { λ r. ⌜ r ≡ turned back (now (t .entry)) seen n ⌝ }
 {
-    let all = low_bits(n);
-    let mut s = 1u32;
-    for k in 0..32usize {
-        if s & all == all {
-            return true;
-        }
-        let next = onward(t, s, n);
-        if next == s {
-            return false;
-        }
-        s = next;
+    if back {
+        return backward(t, seen, n);
     }
-    s & all == all
+    onward(t, seen, n)
 }
 
-// Whether links lead from every other board to board 0.
-fn all_lead_back(t: &[u32], n: usize) -> bool
+// Whether links lead from board 0 to every other, or with back from every other to board 0.
+// The search ends when it has all boards or a turn finds no more; 32 turns are enough.
+fn reaches_all(t: &[u32], n: usize, back: bool) -> bool
     requires { ⌜ (n ≤ 32) × (n ≤ length (now t)) ⌝ }
-    ensures { λ r. ⌜ r ≡ columnFull n (within n 31 (now (t .entry))) 0 ⌝ }
+    ensures { λ r. ⌜ r ≡ sideFull back n (within n 31 (now (t .entry))) ⌝ }
 {
     let all = low_bits(n);
     let mut s = 1u32;
@@ -100,7 +92,7 @@ fn all_lead_back(t: &[u32], n: usize) -> bool
         if s & all == all {
             return true;
         }
-        let next = backward(t, s, n);
+        let next = turn(t, s, n, back);
         if next == s {
             return false;
         }
@@ -114,8 +106,8 @@ pub fn is_connected(t: &[u32], n: usize) -> bool
     requires { ⌜ (n ≤ 32) × (n ≡ length (now t)) ⌝ }
     ensures { λ r. ⌜ r ≡ connected n (now (t .entry)) ⌝ }
 {
-    if !leads_to_all(t, n) {
+    if !reaches_all(t, n, false) {
         return false;
     }
-    all_lead_back(t, n)
+    reaches_all(t, n, true)
 }
