@@ -7,7 +7,7 @@ use mathlib.Core.List.{List}
 use Prim.Native.Nat.{ℕ, zero, suc, _^_, _≤_, _<_}
 use native.Mathlib.Nat.{not-suc-le-zero, le-of-suc-le-suc, eq-or-lt-of-le, lt-of-lt-of-le, le-refl}
 use native.Mathlib.Omega.{arith}
-use lib.Dec.{T, eqb, eqb→eq}
+use lib.Dec.{T, eqb}
 use lib.ListN.{getD}
 use lib.Pow.{pow-pos}
 use lib.Seq.{ext-getD}
@@ -19,6 +19,7 @@ use Rattle.lists.proofs.Tab.{length-tab, getD-tab, every-out}
 use Rattle.links.specs.Tables.{without, within, pairFull, rowFull, full, connected}
 use Rattle.links.proofs.Bits.{link-tab, bit-without, without-32}
 use Rattle.links.proofs.Ways.{one, Short, snoc, last-link, within-way, way-short, length-within, within-small}
+use Rattle.searches.proofs.Search.{pair-out}
 
 -- the boards that a link of the first k rows leads to
 abbrev pub ledTo : List ℕ → ℕ → ℕ
@@ -45,11 +46,10 @@ led-out t (suc n) v m =
 module _ (n : ℕ) (t : List ℕ) (n32 : n ≤ 32) (everywhere : T (connected n t)) where
   -- from u to any other board below n
   way-to : (u w : ℕ) → u < n → w < n → u ≢ w → Short n 31 t u w
-  unfolding connected full rowFull pairFull
+  unfolding connected full rowFull
   way-to u w hu hw ne =
-      ⊎-elim (λ (e : T (eqb u w)). absurd (ne (eqb→eq u w e)))
-      (λ (l : T (link (within n 31 t) u w)). within-way n 31 t n32 u w hu (lt-of-lt-of-le hw n32) .0 l .1)
-      (or-cases (eqb u w) (link (within n 31 t) u w) (every-out (pairFull (within n 31 t) u) n (every-out (rowFull n (within n 31 t)) n everywhere u hu) w hw))
+      ⊎-elim (λ (e : u ≡ w). absurd (ne e)) (λ (s : Short n 31 t u w). s)
+      (pair-out n t u w n32 hu hw (every-out (pairFull (within n 31 t) u) n (every-out (rowFull n (within n 31 t)) n everywhere u hu) w hw))
 
   -- and so to each board that some link leads to
   reached : (u v : ℕ) → u < n → v < 32 → u ≢ v → T (bit (ledTo t n) v) → Short n 31 t u v

@@ -217,7 +217,7 @@ pair-in n t u v n32 hu hv p =
     ⊎-elim (λ (e : u ≡ v). or-l (eqb u v) (link (within n 31 t) u v) (eq-refl e))
     (λ (ne : u ≢ v). let hv32 = lt-of-lt-of-le hv n32 in or-r (eqb u v) (link (within n 31 t) u v) (within-way n 31 t n32 u v hu hv32 .1 (ne, way-short n32 hu hv32 ne (p .1)))) (eq-or u v)
 
-pair-out : (n : ℕ) (t : List ℕ) (u v : ℕ) → n ≤ 32 → u < n → v < n → T (pairFull (within n 31 t) u v) → (u ≡ v) ⊎ Short n 31 t u v
+pub pair-out : (n : ℕ) (t : List ℕ) (u v : ℕ) → n ≤ 32 → u < n → v < n → T (pairFull (within n 31 t) u v) → (u ≡ v) ⊎ Short n 31 t u v
 unfolding pairFull
 pair-out n t u v n32 hu hv m =
     ⊎-elim (λ (e : T (eqb u v)). inl (eqb→eq u v e)) (λ (l : T (link (within n 31 t) u v)). inr (within-way n 31 t n32 u v hu (lt-of-lt-of-le hv n32) .0 l .1))
