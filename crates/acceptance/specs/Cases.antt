@@ -1,10 +1,12 @@
 -- Recordings by hand: the ten cases of document 01 as one table against the whole run's definition, each in an area exact to the word. Assumes nothing.
-use mathlib.Core.Path.{_≡_, refl}
-use Prim.Native.Nat.{ℕ, _/_}
+use mathlib.Core.Path.{_≡_, refl, _∙_}
+use Prim.Native.Nat.{ℕ, _/_, _≤_}
+use native.Mathlib.Omega.{arith}
 use mathlib.Core.List.{List, [], _∷_}
 use lib.ListN.{length}
 use Rattle.model.specs.Recording.{bit, link}
 use Rattle.lists.specs.Tab.{tab, zeros, every}
+use Rattle.lists.proofs.Tab.{length-zeros}
 use Rattle.links.specs.Tables.{without, bothRow, intersection, eitherRow, union, gathered, throughRow, composeRow, compose, within, pairFull, rowFull, full, connected, rowSame, same}
 use Rattle.links.specs.Composed.{composedFrom, composed, reach}
 use Rattle.times.specs.Times.{rows, sooner, later, after, apart, arriveBy, departBy, arrival, departure, arrivals, departures, composeTimes, ownTime, ownTimes, inTime, rowInTime, allInTime}
@@ -21,6 +23,7 @@ use Rattle.reach.specs.Tables.{tableOf}
 use Rattle.law.specs.Correct.{Passes, Right}
 use Rattle.law.specs.Claim2.{recording}
 use Rattle.law.specs.Whole.{whole}
+use Rattle.numbers.proofs.Counts.{same-anywhere}
 
 -- the whole run in an area exact to the word
 unfoldable pub run : ℕ → ℕ → List ℕ → Outcome
@@ -65,6 +68,41 @@ unfolding run bit link tab zeros every without bothRow intersection eitherRow un
     minStep raisedBy raised again climb climbed maxStep stepped reported stop openedArea wholeVerdict unions wholeStart stepsOf wholeAfter wholeReport
     wholeSays
 cases = (refl, refl, refl, refl, refl, refl, refl, refl, refl, refl)
+
+-- the whole run answers o in every area that is long enough, whatever it held
+abbrev pub Anywhere : ℕ → ℕ → List ℕ → Outcome → Type 0
+Anywhere n measure w o = (a : List ℕ) → needed measure n (length w / n) ≤ length a → wholeSays n measure w a ≡ o
+
+anywhere : (n measure : ℕ) (w : List ℕ) (o : Outcome) → run n measure w ≡ o → Anywhere n measure w o
+unfolding run
+anywhere n measure w o e a h =
+    let k = needed measure n (length w / n) in
+    same-anywhere n measure w a (zeros k) h (omega (arith, length-zeros k)) ∙ e
+
+-- and so do the ten
+pub cases-anywhere :
+    Anywhere 2 1 A (outcome 9 0 0 1)
+    × Anywhere 2 2 A (outcome 0 2 6 4)
+    × Anywhere 2 3 A (outcome 0 2 3 4)
+    × Anywhere 2 4 A (outcome 0 3 4 4)
+    × Anywhere 2 1 B (outcome 0 3 2 3)
+    × Anywhere 2 3 B (outcome 0 1 0 3)
+    × Anywhere 3 1 C (outcome 0 1 3 5)
+    × Anywhere 2 1 D (outcome 9 0 1 3)
+    × Anywhere 2 3 D (outcome 0 2 0 2)
+    × Anywhere 2 2 F (outcome 0 1 0 1)
+cases-anywhere = (
+  anywhere 2 1 A _ (cases .0),
+  anywhere 2 2 A _ (cases .1),
+  anywhere 2 3 A _ (cases .2),
+  anywhere 2 4 A _ (cases .3),
+  anywhere 2 1 B _ (cases .4),
+  anywhere 2 3 B _ (cases .5),
+  anywhere 3 1 C _ (cases .6),
+  anywhere 2 1 D _ (cases .7),
+  anywhere 2 3 D _ (cases .8),
+  anywhere 2 2 F _ (cases .9),
+)
 
 -- and each of the ten is right by the meaning: the length over all windows, or 9 where there is none
 abbrev pub RightCase : ℕ → ℕ → List ℕ → Type 0

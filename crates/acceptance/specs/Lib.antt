@@ -3,3 +3,4 @@ pub mod Condition1
 pub mod Condition2
 pub mod Condition3
 pub mod Cases
+pub mod Walk

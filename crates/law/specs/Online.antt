@@ -152,13 +152,13 @@ good-listed n measure l (w ∷ ws) m k g (suc (suc t)) u v a b o = good-listed n
 
 -- ---- THE THEOREM
 
-opened-start : (n measure limit : ℕ) (footprint a : List ℕ) (e : openVerdict n measure limit footprint a ≡ 0) (room : needed measure n limit ≤ length a) (list : measure ≡ 2 → n ≡ length footprint)
+pub opened-start : (n measure limit : ℕ) (footprint a : List ℕ) (e : openVerdict n measure limit footprint a ≡ 0) (room : needed measure n limit ≤ length a) (list : measure ≡ 2 → n ≡ length footprint)
     → opened n measure limit footprint a ≡ start n measure limit footprint a room list 0
 unfolding openSays openLeaves fresh charged
 opened-start n measure limit footprint a e room list =
     ap (λ (b : ℕ). state (either (eqb b 0) (fresh measure n limit) nowhere) (either (eqb b 0) (openedArea n measure limit footprint a) a)) e
 
-length-reports : (p : Place) → Sound p → 1 ≤ p .taken .0 → lengthSays p ≡ reportSays (reported p) p
+pub length-reports : (p : Place) → Sound p → 1 ≤ p .taken .0 → lengthSays p ≡ reportSays (reported p) p
 unfolding lengthSays
 length-reports p s h =
     ap₂ (λ (x y : Bool). either (not x) (outcome 16 0 0 0) (either y (outcome 8 0 0 0) (reportSays (reported p) p))) (sound-in p s) (F→≡ (eqb (p .taken .0) 0) (λ t. let z = eqb→eq (p .taken .0) 0 t in omega arith))
@@ -175,13 +175,13 @@ no-charge (suc zero) = refl
 no-charge (suc (suc x)) = tt
 
 -- what picks that were taken from an opening come to: a recording, and a walk over it
-record Walk-over (n measure limit : ℕ) (footprint a : List ℕ) (room : needed measure n limit ≤ length a) (list : measure ≡ 2 → n ≡ length footprint) (ws : List (List ℕ)) : Type 0 where
-  rec : Recording n ws
-  few : length ws ≤ limit
-  fit : Fits measure footprint ws n
-  same : after (opened n measure limit footprint a) ws ≡ walked (kit measure n) ws (start n measure limit footprint a room list 0) (length ws)
+pub record Walk-over (n measure limit : ℕ) (footprint a : List ℕ) (room : needed measure n limit ≤ length a) (list : measure ≡ 2 → n ≡ length footprint) (ws : List (List ℕ)) : Type 0 where
+  pub rec : Recording n ws
+  pub few : length ws ≤ limit
+  pub fit : Fits measure footprint ws n
+  pub same : after (opened n measure limit footprint a) ws ≡ walked (kit measure n) ws (start n measure limit footprint a room list 0) (length ws)
 
-walk-over : (n measure limit : ℕ) (footprint a : List ℕ) (e : openVerdict n measure limit footprint a ≡ 0) (ws : List (List ℕ)) → Taken (opened n measure limit footprint a) ws
+pub walk-over : (n measure limit : ℕ) (footprint a : List ℕ) (e : openVerdict n measure limit footprint a ≡ 0) (ws : List (List ℕ)) → Taken (opened n measure limit footprint a) ws
     → Walk-over n measure limit footprint a (open-sound n measure limit footprint a e .room) (open-sound n measure limit footprint a e .list) ws
 unfolding fresh charged
 walk-over n measure limit footprint a e ws t =

@@ -40,7 +40,7 @@ module _ (n : ℕ) (w : List ℕ) (m : ℕ) (room : m * n ≤ length w) (ok : T 
   abbrev r : List (List ℕ)
   r = lentPicks n w m
 
-  rec : Recording n r
+  pub rec : Recording n r
   rec = lent-recording n w m room ok m (le-refl m)
 
   pick-clean : (k : ℕ) → k < m → Clean n (lentPick n w k)
@@ -77,7 +77,7 @@ module _ (n : ℕ) (w : List ℕ) (m : ℕ) (room : m * n ≤ length w) (ok : T 
   pub unions-listed : Listed r (unions n w m)
   unions-listed t u v a b o = unions-links m (le-refl m) u v .1 (t, a, omega (arith, length-lent n w m), o)
 
-  whole-fits : (measure : ℕ) → Fits measure (unions n w m) r n
+  pub whole-fits : (measure : ℕ) → Fits measure (unions n w m) r n
   whole-fits zero = tt
   whole-fits (suc zero) = tt
   whole-fits (suc (suc zero)) = (unions-clean m (le-refl m), unions-listed)
@@ -91,7 +91,7 @@ whole-charge (suc zero) m = refl
 whole-charge (suc (suc x)) m = tt
 
 -- the run is a walk over the recording
-whole-walks : (n measure : ℕ) (w a : List ℕ) (room : needed measure n (length w / n) ≤ length a) (list : measure ≡ 2 → n ≡ length (unions n w (length w / n))) (k : ℕ) → k ≤ length w / n
+pub whole-walks : (n measure : ℕ) (w a : List ℕ) (room : needed measure n (length w / n) ≤ length a) (list : measure ≡ 2 → n ≡ length (unions n w (length w / n))) (k : ℕ) → k ≤ length w / n
     → wholeAfter n measure (length w / n) w a k ≡ walked (kit measure n) (recording n w) (start n measure (length w / n) (unions n w (length w / n)) a room list (listCost measure (length w / n))) k
 unfolding wholeAfter stepsOf wholeStart walked
 whole-walks n measure w a room list zero h = refl
