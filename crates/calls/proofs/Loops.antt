@@ -3,20 +3,19 @@ use mathlib.Core.Path.{_≡_, refl, sym, ap, ap₂, _∙_, subst}
 use mathlib.Core.Bool.{Bool, true, false}
 use mathlib.Core.List.{List, _++_}
 use Prim.Native.Nat.{ℕ, zero, suc, _+_, _-_, _*_, _≤_, _<_, zero-le}
-use native.Mathlib.Nat.{le-refl, sub-zero}
+use native.Mathlib.Nat.{le-refl, sub-zero, zero-mul, add-zero, add-assoc}
 use native.Mathlib.Numerals.{add-one}
 use native.Mathlib.Omega.{arith}
-use borrow.Author.Tests.{ne-eqb}
+use borrow.Author.Tests.{eq-eqb, ne-eqb}
 use lib.Dec.{eqb}
-use lib.ListN.{length, take, drop, replicate-append-replicate, length-append, length-drop}
-use lib.Seq.{drop-at}
-use Rattle.lists.specs.Tab.{zeros, padded}
-use Rattle.lists.proofs.Tab.{length-tab, length-zeros, take-padded, drop-padded}
+use lib.ListN.{length, take, drop}
+use Rattle.lists.specs.Tab.{zeros}
+use Rattle.lists.proofs.Tab.{length-tab, length-zeros}
 use Rattle.links.specs.Tables.{union, eitherRow}
 use Rattle.checks.specs.Lent.{lentPick}
 use Rattle.checks.proofs.Lent.{lent-long}
 use Rattle.measures.specs.Kit.{Kit, kit, widthOf, either}
-use Rattle.area.specs.Parts.{zeroed}
+use Rattle.area.specs.Parts.{putPart, zeroed}
 use Rattle.place.specs.declared.Place.{Place}
 use Rattle.place.specs.Places.{fresh, charged}
 use Rattle.verdicts.specs.Verdicts.{needed}
@@ -30,45 +29,96 @@ use Rattle.calls.proofs.Opened.{opened-beyond}
 
 -- ---- the union of the picks
 
-pub length-unions : (n : ℕ) (w : List ℕ) (k : ℕ) → length (unions n w k) ≡ n
-unfolding unions union
-length-unions n w zero = length-zeros n
-length-unions n w (suc k) = length-tab (eitherRow (unions n w k) (lentPick n w k)) n
+length-union : (n : ℕ) (s t : List ℕ) → length (union n s t) ≡ n
+unfolding union
+length-union n s t = length-tab (eitherRow s t) n
 
-zeros-split : (n k : ℕ) → n ≤ k → zeros n ++ drop n (zeros k) ≡ zeros k
-unfolding zeros
-zeros-split n k h =
-    let e : k ≡ n + (k - n) = omega arith in
-    let f : zeros k ≡ zeros n ++ zeros (k - n) = ap zeros e ∙ sym (replicate-append-replicate n (k - n) 0) in
-    ap (λ (x : List ℕ). zeros n ++ drop n x) f ∙ ap (λ (x : List ℕ). zeros n ++ x) (drop-at (zeros n) (zeros (k - n)) n (length-zeros n)) ∙ sym f
-
-unions-next : (n : ℕ) (w : List ℕ) (k : ℕ) → union n (unions n w k) (lentPick n w k) ≡ unions n w (k + 1)
+pub length-unions : (n : ℕ) (w : List ℕ) (k : ℕ) → k * n ≤ length w → length (unions n w k) ≡ n
 unfolding unions
-unions-next n w k = rw add-one
+length-unions n w zero room = length-zeros n
+length-unions n w (suc zero) room = lent-long n 0 1 w room (omega arith)
+length-unions n w (suc (suc k)) room = length-union n (unions n w (suc k)) (lentPick n w (suc k))
 
--- before the first pick
-pub unions-start : (n : ℕ) (w x : List ℕ) → n ≤ 32 → x ≡ zeros 32 → x ≡ padded 32 (unions n w 0)
-unfolding unions padded
-unions-start n w x h e = e ∙ sym (ap (λ (y : ℕ). zeros n ++ drop y (zeros 32)) (length-zeros n) ∙ zeros-split n 32 h)
+unions-next : (n : ℕ) (w : List ℕ) (k : ℕ) → 1 ≤ k → union n (unions n w k) (lentPick n w k) ≡ unions n w (k + 1)
+unfolding unions
+unions-next n w zero h = absurd (omega arith)
+unions-next n w (suc k) h = rw add-one
 
--- a turn: the first n words take in a pick
-pub unions-turn : (n k : ℕ) (w x y p : List ℕ) → x ≡ padded 32 (unions n w k) → p ≡ lentPick n w k → y ≡ union n (take (n - 0) x) p → y ++ drop (n - 0) x ≡ padded 32 (unions n w (k + 1))
-unfolding padded
-unions-turn n k w x y p e q r =
-    ap₂ (λ (a b : List ℕ). a ++ b) (r ∙ ap₂ (union n) (ap₂ take (sub-zero n) e ∙ take-padded 32 n (unions n w k) (length-unions n w k)) q ∙ next)
-    (ap₂ drop (sub-zero n) e ∙ drop-padded 32 n (unions n w k) (length-unions n w k) ∙ ap (λ (i : ℕ). drop i (zeros 32)) (sym (length-unions n w (k + 1))))
-  where
-    next : union n (unions n w k) (lentPick n w k) ≡ unions n w (k + 1)
-    next = unions-next n w k
+charged-none : (p : Place) → charged p 0 ≡ p
+unfolding charged
+charged-none p = rw add-zero
 
--- the footprint as code lends it
-pub unions-lent : (n m : ℕ) (w x : List ℕ) → x ≡ padded 32 (unions n w m) → take (n - 0) x ≡ unions n w m
-unions-lent n m w x e = ap₂ take (sub-zero n) e ∙ take-padded 32 n (unions n w m) (length-unions n w m)
+charged-on : (p : Place) (x y : ℕ) → charged (charged p x) y ≡ charged p (x + y)
+unfolding charged
+charged-on p x y = rw add-assoc
 
--- under the other measures no footprint is read
-pub opened-any : (n measure limit : ℕ) (x y a : List ℕ) → (measure ≡ 2 → ⊥) → openedArea n measure limit x a ≡ openedArea n measure limit y a
-unfolding openedArea
-opened-any n measure limit x y a ne = simp (ne-eqb _ _ ne)
+-- what holds of the words and the place once k picks are united: k - 1 unions were made, and as many compositions charged
+pub record United (n m : ℕ) (p : Place) (w : List ℕ) (k : ℕ) (q : Place) (t : List ℕ) : Type 0 where
+  pub low : 1 ≤ k
+  pub high : k ≤ m
+  pub words : t ≡ unions n w k
+  pub long : n ≡ length t
+  pub cost : q ≡ charged p (k - 1)
+
+-- the part that code lends for pick 1
+pub first-part : (n : ℕ) (w : List ℕ) → take (n - 0) w ≡ lentPick n w 0
+unfolding lentPick
+first-part n w = ap₂ (λ (x y : ℕ). take x (drop y w)) (sub-zero n) (sym (zero-mul n))
+
+pub first-long : (n m : ℕ) (w : List ℕ) → 1 ≤ m → m * n ≤ length w → n ≡ length (take (n - 0) w)
+first-long n m w h room = sym (ap length (first-part n w) ∙ lent-long n 0 m w room h)
+
+pub united-start : (n m : ℕ) (p : Place) (w t : List ℕ) → 1 ≤ m → m * n ≤ length w → t ≡ take (n - 0) w → United n m p w 1 p t
+unfolding unions
+united-start n m p w t h room e =
+    record { low = le-refl 1; high = h; words = e ∙ first-part n w; long = first-long n m w h room ∙ sym (ap length e); cost = sym (charged-none p) }
+
+module _ {n m : ℕ} {p : Place} {w : List ℕ} {k : ℕ} {q : Place} {t : List ℕ} (g : United n m p w k q t) where
+  -- the charge does not wrap
+  pub united-few : p .compositions .0 ≡ 0 → m ≤ 4096 → q .compositions .0 ≤ 100000000
+  unfolding charged
+  united-few z c = let h = g .high in rw (g .cost) (omega arith)
+
+  -- a union with the pick after it
+  pub united-turn : {r : Place} {x s : List ℕ} → k < m → x ≡ lentPick n w k → s ≡ union n t x → r ≡ charged q 1 → United n m p w (k + 1) r s
+  united-turn {r} {x} {s} h e f c =
+      let l = g .low in
+      let j : k - 1 + 1 ≡ k + 1 - 1 = omega arith in
+      let u : s ≡ unions n w (k + 1) = f ∙ ap₂ (union n) (g .words) e ∙ unions-next n w k (g .low) in
+      record {
+        low = omega arith;
+        high = omega arith;
+        words = u;
+        long = sym (ap length f ∙ length-union n t x);
+        cost = c ∙ ap (λ (y : Place). charged y 1) (g .cost) ∙ charged-on p (k - 1) 1 ∙ ap (charged p) j;
+      }
+
+  -- all of them
+  pub united-all : m ≤ k → (q ≡ charged p (m - 1)) × (t ≡ unions n w m)
+  united-all h = let a = g .high in let e : k ≡ m = omega arith in (rw e at (g .cost), rw e at (g .words))
+
+-- ---- the start
+
+-- under the other measures there is no footprint
+pub start-other : (n measure m : ℕ) (w a : List ℕ) {p : Place} {b : List ℕ} {e : ℕ} → (measure ≡ 2 → ⊥) → p ≡ fresh measure n m → e ≡ widthOf measure n
+    → b ≡ zeroed ((m + 4) * e) a → (p ≡ wholeStart n measure m w a .place) × (b ≡ wholeStart n measure m w a .area)
+unfolding wholeStart openedArea
+start-other n measure m w a ne f q z = (
+  f ∙ sym (charged-none (fresh measure n m)) ∙ ap (λ (x : Bool). charged (fresh measure n m) (either x (m - 1) 0)) (sym (ne-eqb measure 2 ne)),
+  z ∙ ap (λ (x : ℕ). zeroed ((m + 4) * x) a) q
+      ∙ ap (λ (x : Bool). either x (putPart (widthOf measure n) (zeroed (needed measure n m) a) (m + 3) (unions n w m)) (zeroed (needed measure n m) a)) (sym (ne-eqb measure 2 ne)),
+)
+
+-- under measure 2 it is made in part m + 3
+pub start-footprint : (n measure m : ℕ) (w a : List ℕ) {p q : Place} {b t : List ℕ} {e : ℕ} → measure ≡ 2 → q ≡ fresh measure n m → e ≡ widthOf measure n
+    → b ≡ zeroed ((m + 4) * e) a → (p ≡ charged q (m - 1)) × (t ≡ unions n w m)
+    → (p ≡ wholeStart n measure m w a .place) × (take ((m + 2) * e) b ++ (t ++ drop e (drop ((m + 2) * e) b)) ≡ wholeStart n measure m w a .area)
+unfolding wholeStart openedArea putPart
+start-footprint n measure m w a {p} {q} {b} {t} {e} two f k z u =
+    let i : m + 2 ≡ m + 3 - 1 = omega arith in (
+      u .0 ∙ ap (λ (x : Place). charged x (m - 1)) f ∙ ap (λ (x : Bool). charged (fresh measure n m) (either x (m - 1) 0)) (sym (eq-eqb measure 2 two)),
+      simp (z, u .1, k, i, eq-eqb measure 2 two),
+    )
 
 -- ---- the steps
 
@@ -198,21 +248,23 @@ whole-starts n measure m c w a {p} {b} f h e l =
     })
 
 -- what the walk of a whole run comes to
-pub whole-ends : (n measure m : ℕ) (w a : List ℕ) {p q : Place} {b d : List ℕ} → p ≡ charged (fresh measure n m) (either (eqb measure 2) (m - 1) 0) → b ≡ openedArea n measure m (unions n w m) a
+pub whole-ends : (n measure m : ℕ) (w a : List ℕ) {p q : Place} {b d : List ℕ} → (p ≡ wholeStart n measure m w a .place) × (b ≡ wholeStart n measure m w a .area)
     → Does (stepsOf (kitOf p) (p .boards) w m) p b q d → q ≡ wholeAfter n measure m w a m .place
 unfolding wholeAfter wholeStart charged fresh
-whole-ends n measure m w a {p} {q} {b} {d} e f g =
-    g .0 ∙ ap₂ (λ (x : Place) (y : List ℕ). stepsOf (kitOf x) (x .boards) w m (state x y) .place) e f
+whole-ends n measure m w a e g = g .0 ∙ ap₂ (λ (x : Place) (y : List ℕ). stepsOf (kitOf x) (x .boards) w m (state x y) .place) (e .0) (e .1)
 
 -- the words beyond the needed ones
-pub whole-beyond : (n measure m : ℕ) (w a d : List ℕ) {p : Place} {b : List ℕ} → Runs n measure m w a → p ≡ charged (fresh measure n m) (either (eqb measure 2) (m - 1) 0) → b ≡ openedArea n measure m (unions n w m) a
+pub whole-beyond : (n measure m : ℕ) (w a d : List ℕ) {p : Place} {b : List ℕ} → Runs n measure m w a
+    → (p ≡ wholeStart n measure m w a .place) × (b ≡ wholeStart n measure m w a .area)
     → drop ((p .limit + 4) * widthOf (p .measure) (p .boards)) d ≡ drop ((p .limit + 4) * widthOf (p .measure) (p .boards)) b
     → zeroed (needed measure n m) d ≡ zeroed (needed measure n m) a
-unfolding zeroed charged fresh
-whole-beyond n measure m w a d {p} {b} f e g h =
-    let k : drop (needed measure n m) d ≡ drop (needed measure n m) b = subst (λ (x : Place). drop ((x .limit + 4) * widthOf (x .measure) (x .boards)) d ≡ drop ((x .limit + 4) * widthOf (x .measure) (x .boards)) b) e h in
+unfolding zeroed wholeStart charged fresh
+whole-beyond n measure m w a d {p} {b} f e h =
+    let z = f .words in
+    let k : drop (needed measure n m) d ≡ drop (needed measure n m) b =
+    subst (λ (x : Place). drop ((x .limit + 4) * widthOf (x .measure) (x .boards)) d ≡ drop ((x .limit + 4) * widthOf (x .measure) (x .boards)) b) (e .0) h in
     ap (λ (x : List ℕ). zeros (needed measure n m) ++ x)
-    (k ∙ ap (drop (needed measure n m)) g ∙ opened-beyond n measure m (unions n w m) a (f .room) (λ x. sym (length-unions n w m)))
+    (k ∙ ap (drop (needed measure n m)) (e .1) ∙ opened-beyond n measure m (unions n w m) a (f .room) (λ x. sym (length-unions n w m (omega arith))))
 
 pub list-cost : (measure m : ℕ) → m ≤ 4096 → either (eqb measure 2) (m - 1) 0 ≤ 4096
 list-cost measure m h = go (eqb measure 2)
@@ -220,8 +272,3 @@ list-cost measure m h = go (eqb measure 2)
     go : (x : Bool) → either x (m - 1) 0 ≤ 4096
     go true = omega arith
     go false = omega arith
-
-pub padded-long : (n m : ℕ) (w x : List ℕ) → n ≤ 32 → x ≡ padded 32 (unions n w m) → length x ≡ 32
-unfolding padded
-padded-long n m w x h e =
-    ap length e ∙ length-append (unions n w m) (drop (length (unions n w m)) (zeros 32)) ∙ (let a = length-unions n w m in let b = length-drop (length (unions n w m)) (zeros 32) in let c = length-zeros 32 in omega arith)

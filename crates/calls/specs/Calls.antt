@@ -56,12 +56,13 @@ lengthSays p = either (not (soundPlace p)) (outcome 16 0 0 0) (either (eqb (p .t
 
 -- ---- whole run: the causes of its verdict, then 9; m = length w / n picks are lent
 
--- the union of the first k picks
+-- the union of the first k picks: pick 1, and a union with each of the k - 1 picks after it
 unfoldable pub unions : ℕ → List ℕ → ℕ → List ℕ
 unions n w zero = zeros n
-unions n w (suc k) = union n (unions n w k) (lentPick n w k)
+unions n w (suc zero) = lentPick n w 0
+unions n w (suc (suc k)) = union n (unions n w (suc k)) (lentPick n w (suc k))
 
--- before pick 1 of m: under measure 2 the union of all picks is the footprint, at a cost of m - 1
+-- before pick 1 of m: under measure 2 the union of all picks is the footprint, at a cost of its m - 1 unions
 unfoldable pub wholeStart : ℕ → ℕ → ℕ → List ℕ → List ℕ → State
 wholeStart n measure m w a = state (charged (fresh measure n m) (either (eqb measure 2) (m - 1) 0)) (openedArea n measure m (unions n w m) a)
 

@@ -2,18 +2,15 @@
 ghost use mathlib.Core.Path.{_≡_};
 ghost use Prim.Native.Nat.{_-_, _*_, _≤_};
 ghost use lib.ListN.{length};
-ghost use lib.Dec.{eqb};
-ghost use Rattle.lists.specs.Tab.{padded};
-ghost use Rattle.measures.specs.Kit.{either};
 ghost use Rattle.area.specs.Parts.{zeroed};
-ghost use Rattle.place.specs.Places.{fresh, charged};
+ghost use Rattle.place.specs.Places.{charged};
 ghost use Rattle.verdicts.specs.Verdicts.{needed};
 ghost use Rattle.verdicts.specs.Fit.{Clears, Runs};
 ghost use Rattle.steps.specs.Walk.{kitOf, reported};
 ghost use Rattle.steps.specs.Fit.{Does};
 ghost use Rattle.calls.specs.Answers.{openingSays, takingSays, answerSays};
 ghost use Rattle.calls.specs.Fit.{Starts, Ends};
-ghost use Rattle.calls.specs.Calls.{openedArea, openSays, openLeaves, pickSays, pickLeaves, reportSays, lengthSays, unions, stepsOf, wholeReport, wholeSays, wholeLeaves};
+ghost use Rattle.calls.specs.Calls.{openedArea, openSays, openLeaves, pickSays, pickLeaves, reportSays, lengthSays, unions, wholeStart, stepsOf, wholeReport, wholeSays, wholeLeaves};
 use model::Compositions;
 use model::Refusal;
 use model::Tests;
@@ -132,42 +129,34 @@ pub fn length(p: Place) -> Measured
 
 // ---- whole run
 
-// The union of m picks, by value, and zeros up to 32.
-fn union_of(words: &[u32], n: usize, m: usize) -> [u32; 32]
-    requires { ⌜ (n ≤ 32) × ((m ≤ 4096) × (m * n ≤ length (now words))) ⌝ }
-    ensures { λ r. ⌜ r ≡ padded 32 (unions n (now (words .entry)) m) ⌝ }
+// The union of m picks, from pick 1 on. Each pick after it is one union, and one composition charged.
+fn unite_picks(p: Place, words: &[u32], n: usize, m: usize, out: &mut [u32]) -> Place
+    requires { ⌜ (n ≡ length (now out)) × (n ≤ 32) × (1 ≤ m) × (m ≤ 4096) × (m * n ≤ length (now words)) × (p .compositions .0 ≡ 0) ⌝ }
+    ensures { λ r. ⌜ (r ≡ charged p (m - 1)) × (now (out .exit) ≡ unions n (now (words .entry)) m) ⌝ }
 {
-    let mut t = lists::no_words();
-    for k in 0..m {
+    lists::copy_over(out, &words[0..n], n);
+    let mut q = p;
+    for k in 1..m {
         let at = k * n;
-        links::unite_into(&mut t[0..n], &words[at..at + n], n);
+        links::unite_into(out, &words[at..at + n], n);
+        q = q.charged(1);
     }
-    t
+    q
 }
 
-// The area that a whole run starts from. Only measure 2 has a footprint: the union of all picks.
-fn whole_area(n: usize, measure: usize, words: &[u32], m: usize, area: &mut [u32])
+// The place and the area that a whole run starts from. Only measure 2 has a footprint: the union of all picks, made in part m + 3.
+fn whole_start(n: usize, measure: usize, words: &[u32], m: usize, area: &mut [u32]) -> Place
     requires { ⌜ Runs n measure m (now words) (now area) ⌝ }
-    ensures { λ _. ⌜ now (area .exit) ≡ openedArea n measure m (unions n (now (words .entry)) m) (now (area .entry)) ⌝ }
-{
-    if measure != 2 {
-        open_area(n, measure, m, words, area);
-        return;
-    }
-    let footprint = union_of(words, n, m);
-    open_area(n, measure, m, &footprint[0..n], area);
-}
-
-// The place that a whole run starts from: under measure 2 its footprint has cost m - 1.
-fn whole_place(n: usize, measure: usize, m: usize) -> Place
-    requires { ⌜ (1 ≤ measure) × ((measure ≤ 4) × ((1 ≤ m) × (m ≤ 4096))) ⌝ }
-    ensures { λ r. ⌜ r ≡ charged (fresh measure n m) (either (eqb measure 2) (m - 1) 0) ⌝ }
+    ensures { λ r. ⌜ (r ≡ wholeStart n measure m (now (words .entry)) (now (area .entry)) .place) × (now (area .exit) ≡ wholeStart n measure m (now (words .entry)) (now (area .entry)) .area) ⌝ }
 {
     let p = Place::open(measure, n, m);
-    if measure == 2 {
-        return p.charged(m - 1);
+    let e = measures::width(measure, n);
+    area::zero_first(area, (m + 4) * e);
+    if measure != 2 {
+        return p;
     }
-    p.charged(0)
+    let at = (m + 2) * e;
+    unite_picks(p, words, n, m, &mut area[at..at + e])
 }
 
 // All picks, one after the other, by the unchecked step: a count that starts at m - 1 would be refused as 16.
@@ -189,8 +178,7 @@ fn whole_run(n: usize, measure: usize, words: &[u32], m: usize, area: &mut [u32]
     requires { ⌜ Runs n measure m (now words) (now area) ⌝ }
     ensures { λ r. ⌜ (answerSays r ≡ wholeReport n measure m (now (words .entry)) (now (area .entry))) × (now (area .exit) ≡ zeroed (needed measure n m) (now (area .entry))) ⌝ }
 {
-    whole_area(n, measure, words, m, area);
-    let p = whole_place(n, measure, m);
+    let p = whole_start(n, measure, words, m, area);
     let q = whole_steps(p, area, words, m);
     let e = measures::width(measure, n);
     area::zero_first(area, (m + 4) * e);

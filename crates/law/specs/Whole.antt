@@ -9,7 +9,7 @@ use native.Mathlib.Nat.{le-refl, eq-or-lt-of-le}
 use native.Mathlib.Omega.{arith}
 use lib.Dec.{T, eqb, eqb→eq}
 use lib.ListN.{length}
-use Rattle.model.specs.Recording.{link, Words, Clean, Recording, pickAt}
+use Rattle.model.specs.Recording.{link, Clean, Recording, pickAt}
 use Rattle.model.specs.Journey.{Open}
 use Rattle.model.specs.Measures.{SomeLink, PassesFootprint}
 use Rattle.model.proofs.Logic.{tr, F→≡, or-l, or-r, or-cases}
@@ -49,30 +49,39 @@ module _ (n : ℕ) (w : List ℕ) (m : ℕ) (room : m * n ≤ length w) (ok : T 
   unions-clean : (k : ℕ) → k ≤ m → Clean n (unions n w k)
   unfolding unions
   unions-clean zero h = zeros-clean n
-  unions-clean (suc k) h = union-clean n (unions n w k) (lentPick n w k) (unions-clean k (omega arith)) (pick-clean k h)
+  unions-clean (suc zero) h = pick-clean 0 h
+  unions-clean (suc (suc k)) h = union-clean n (unions n w (suc k)) (lentPick n w (suc k)) (unions-clean (suc k) (omega arith)) (pick-clean (suc k) h)
 
   -- the union of the first k picks has exactly the links open at one of them
   unions-links : (k : ℕ) → k ≤ m → (u v : ℕ) → T (link (unions n w k) u v) ↔ SomeLink r 1 k u v
   unfolding unions
   unions-links zero h u v = (λ t. absurd (zeros-none n u v t), λ f. let x : 1 ≤ f .0 = f .1 in let y : f .0 ≤ 0 = f .2 in absurd (omega arith))
-  unions-links (suc k) h u v =
-      let p = lentPick n w k in
-      let q = unions n w k in
-      let ih = unions-links k (omega arith) u v in
-      let e = lent-at n w m k h in (
-        λ t. let hu = link-from n (union n q p) (unions-clean-step k h) u v t in
-            ⊎-elim (λ (x : T (link q u v)). let f = ih .0 x in let y : f .0 ≤ k = f .2 in (f .0, f .1, omega arith, f .3))
-            (λ (x : T (link p u v)). (suc k, omega arith, le-refl (suc k), subst (λ (z : List ℕ). T (link z u v)) (sym e) x)) (or-cases (link q u v) (link p u v) (tr (union-link n q p u v hu) t)),
+  unions-links (suc zero) h u v =
+      let e = lent-at n w m 0 h in (
+        λ t. (1, le-refl 1, le-refl 1, subst (λ (z : List ℕ). T (link z u v)) (sym e) t),
         λ f. let x : 1 ≤ f .0 = f .1 in
-            let y : f .0 ≤ suc k = f .2 in
-            let c = pick-at n r rec (f .0) x (omega (arith, length-lent n w m)) in
-            let hu = link-from n (pickAt r (f .0)) (c .words) u v (f .3) in
-            tr (sym (union-link n q p u v hu)) (⊎-elim (λ (z : f .0 ≡ suc k). or-r (link q u v) (link p u v) (subst (λ (y : List ℕ). T (link y u v)) e (subst (λ (y : ℕ). Open r y u v) z (f .3))))
-            (λ (z : f .0 < suc k). or-l (link q u v) (link p u v) (ih .1 (f .0, x, omega arith, f .3))) (eq-or-lt-of-le y)),
+            let y : f .0 ≤ 1 = f .2 in
+            let z : f .0 ≡ 1 = omega arith in
+            subst (λ (y : List ℕ). T (link y u v)) e (subst (λ (y : ℕ). Open r y u v) z (f .3)),
       )
-    where
-      unions-clean-step : (k : ℕ) → suc k ≤ m → Words n (union n (unions n w k) (lentPick n w k))
-      unions-clean-step k h = union-clean n (unions n w k) (lentPick n w k) (unions-clean k (omega arith)) (pick-clean k h) .words
+  unions-links (suc (suc k)) h u v =
+      let p = lentPick n w (suc k) in
+      let q = unions n w (suc k) in
+      let ih = unions-links (suc k) (omega arith) u v in
+      let e = lent-at n w m (suc k) h in
+      let c = union-clean n q p (unions-clean (suc k) (omega arith)) (pick-clean (suc k) h) in (
+        λ t. let hu = link-from n (union n q p) (c .words) u v t in
+            ⊎-elim (λ (x : T (link q u v)). let f = ih .0 x in let y : f .0 ≤ suc k = f .2 in (f .0, f .1, omega arith, f .3))
+            (λ (x : T (link p u v)). (suc (suc k), omega arith, le-refl (suc (suc k)), subst (λ (z : List ℕ). T (link z u v)) (sym e) x))
+            (or-cases (link q u v) (link p u v) (tr (union-link n q p u v hu) t)),
+        λ f. let x : 1 ≤ f .0 = f .1 in
+            let y : f .0 ≤ suc (suc k) = f .2 in
+            let d = pick-at n r rec (f .0) x (omega (arith, length-lent n w m)) in
+            let hu = link-from n (pickAt r (f .0)) (d .words) u v (f .3) in
+            tr (sym (union-link n q p u v hu))
+            (⊎-elim (λ (z : f .0 ≡ suc (suc k)). or-r (link q u v) (link p u v) (subst (λ (y : List ℕ). T (link y u v)) e (subst (λ (y : ℕ). Open r y u v) z (f .3))))
+            (λ (z : f .0 < suc (suc k)). or-l (link q u v) (link p u v) (ih .1 (f .0, x, omega arith, f .3))) (eq-or-lt-of-le y)),
+      )
 
   pub unions-listed : Listed r (unions n w m)
   unions-listed t u v a b o = unions-links m (le-refl m) u v .1 (t, a, omega (arith, length-lent n w m), o)
@@ -106,7 +115,7 @@ whole n measure w a e =
     let m = length w / n in
     let f = whole-sound n measure w a e in
     let words : m * n ≤ length w = let z = f .words in omega arith in
-    let list : measure ≡ 2 → n ≡ length (unions n w m) = λ x. sym (length-unions n w m) in
+    let list : measure ≡ 2 → n ≡ length (unions n w m) = λ x. sym (length-unions n w m words) in
     let k = length-lent n w m in
     let d = told n m (f .some-boards) (f .few) (f .cap) (unions n w m) a (recording n w) (rec n w m words (f .clean)) (omega arith) measure (f .measure-low) (f .measure-high) (f .room) list (listCost measure m)
     (whole-charge measure m) (whole-fits n w m words (f .clean) measure) m (f .some-picks) (omega arith) in

@@ -139,7 +139,10 @@ module _ (n measure m : ℕ) (w a : List ℕ) (r : Runs n measure m w a) where
 
   starts : Starts (start .place) m w (start .area)
   unfolding wholeStart charged fresh
-  starts = whole-starts n measure m _ w a r (list-cost measure m (r .cap)) refl (opened-length n measure m (unions n w m) a (r .room) (λ e. sym (length-unions n w m)))
+  starts =
+      let z = r .words in
+      whole-starts n measure m _ w a r (list-cost measure m (r .cap)) refl
+      (opened-length n measure m (unions n w m) a (r .room) (λ e. sym (length-unions n w m (omega arith))))
 
   abbrev after : ℕ → State
   after k = stepsOf (kitOf (start .place)) (start .place .boards) w k start

@@ -1,0 +1,106 @@
+-- `calls::unite_picks` meets its contract. The invariant is `United`: k - 1 unions, and as many compositions charged.
+-- Assumes nothing.
+use Prim.Native.Nat.{_-_}
+use native.Mathlib.Omega.{arith}
+use Rattle.checks.proofs.Lent.{lent-end, lent-part, lent-room}
+use Rattle.calls.proofs.Loops.{United, first-long, united-start, united-few, united-turn, united-all}
+use borrow.Author.Needs.{needs}
+use Rattle.calls.proofs.unite_picks.Statement.{statement}
+use Rattle.calls.proofs.unite_picks.Tie as tie
+
+abbrev Inv-loop : tie.InvT-loop
+Inv-loop words n m out₀ q₀ k₀ out q k = United n m q₀ words k q out
+
+abbrev μ-loop : tie.MeasureT-loop
+μ-loop words n m out₀ q₀ k₀ out q k = m - k
+
+sub-copy-over : tie.Need-sub-copy-over Inv-loop μ-loop
+sub-copy-over c = search needs
+
+part-copy-over-start : tie.Need-part-copy-over-start Inv-loop μ-loop
+part-copy-over-start c = search needs
+
+part-copy-over-end : tie.Need-part-copy-over-end Inv-loop μ-loop
+part-copy-over-end c = omega (arith, lent-end (c .before .before .before .args .n) (c .before .before .before .pre .2))
+
+copy-over-requires : tie.Need-copy-over-requires Inv-loop μ-loop
+copy-over-requires c κs =
+    let a = c .before .before .before .before in
+    (a .pre .0, first-long (a .args .n) (a .args .m) _ (a .pre .2) (a .pre .4))
+
+loop-holds : tie.Need-loop-holds Inv-loop μ-loop
+loop-holds c =
+    united-start _ _ _ _ _ (c .before .before .before .before .before .before .before .pre .2) (c .before .before .before .before .before .before .before .pre .4) (c .before .before .copy-over .ensures)
+
+mul-at : tie.Need-mul-at Inv-loop μ-loop
+mul-at c =
+    omega (arith, lent-end (c .before .before .before .before .before .before .before .before .before .args .n) (c .loop-test .taken))
+
+add-unite-into : tie.Need-add-unite-into Inv-loop μ-loop
+add-unite-into c =
+    omega (arith, lent-end (c .before .before .before .before .before .before .before .before .before .before .args .n) (c .before .loop-test .taken))
+
+mul-unite-into : tie.Need-mul-unite-into Inv-loop μ-loop
+mul-unite-into c =
+    omega (arith, lent-end (c .before .before .before .before .before .before .before .before .before .before .args .n) (c .before .loop-test .taken))
+
+sub-unite-into : tie.Need-sub-unite-into Inv-loop μ-loop
+sub-unite-into c = search needs
+
+part-unite-into-start : tie.Need-part-unite-into-start Inv-loop μ-loop
+part-unite-into-start c = search needs
+
+part-unite-into-end : tie.Need-part-unite-into-end Inv-loop μ-loop
+part-unite-into-end c =
+    omega (arith, lent-end (c .before .before .before .before .before .before .before .before .before .before .args .n) (c .before .loop-test .taken))
+
+unite-into-requires : tie.Need-unite-into-requires Inv-loop μ-loop
+unite-into-requires c κs =
+    let l = c .before .before .before in
+    let a = l .before .before .before .before .before .before .before .before in
+    (l .loop .inv .long, omega (arith, lent-room (a .args .n) (l .loop .k) (a .args .m) (a .args .words .now) (a .pre .4) (c .before .before .loop-test .taken)))
+
+charged-requires : tie.Need-charged-requires Inv-loop μ-loop
+charged-requires c κs =
+    (united-few (c .before .before .before .before .before .before .loop .inv) (c .before .before .before .before .before .before .before .before .before .before .before .before .before .before .pre .5) (c .before .before .before .before .before .before .before .before .before .before .before .before .before .before .pre .3), omega arith)
+
+add-k : tie.Need-add-k Inv-loop μ-loop
+add-k c = search needs
+
+loop-less : tie.Need-loop-less Inv-loop μ-loop
+loop-less c = search needs
+
+loop-again : tie.Need-loop-again Inv-loop μ-loop
+loop-again c =
+    united-turn (c .before .before .before .before .before .before .before .loop .inv) (c .before .before .before .before .before .before .loop-test .taken) (lent-part _ _ _) (c .before .before .before .unite-into .ensures) (c .charged .ensures)
+
+same-length : tie.Need-same-length Inv-loop μ-loop
+same-length c = search needs
+
+returns : tie.Need-returns Inv-loop μ-loop
+returns c = united-all (c .before .loop .inv) (c .loop-test .left)
+
+pub unite-picks-spec : {M : Type 1} → statement M
+unite-picks-spec =
+    tie.close
+    (tie.spec
+    Inv-loop
+    μ-loop
+    sub-copy-over
+    part-copy-over-start
+    part-copy-over-end
+    copy-over-requires
+    loop-holds
+    mul-at
+    add-unite-into
+    mul-unite-into
+    sub-unite-into
+    part-unite-into-start
+    part-unite-into-end
+    unite-into-requires
+    charged-requires
+    add-k
+    loop-less
+    loop-again
+    same-length
+    returns)

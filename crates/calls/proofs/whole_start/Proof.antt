@@ -1,0 +1,125 @@
+-- `calls::whole_start` meets its contract: the footprint is made in part m + 3, which ends before the needed words do.
+-- Assumes nothing.
+use mathlib.Core.Path.{refl, sym, ap, _∙_}
+use Prim.Native.Nat.{_+_, _*_, _≤_}
+use native.Mathlib.Nat.{add-sub-cancel-left}
+use native.Mathlib.Omega.{arith}
+use Rattle.checks.proofs.Lent.{lent-end, lent-room}
+use lib.ListN.{length}
+use Rattle.place.specs.declared.Place.{Place}
+use Rattle.place.specs.Places.{fresh}
+use Rattle.verdicts.proofs.Verdicts.{needed-most, footprint-fills}
+use Rattle.calls.proofs.Loops.{start-other, start-footprint}
+use borrow.Author.Needs.{needs}
+use Rattle.calls.proofs.whole_start.Statement.{statement}
+use Rattle.calls.proofs.whole_start.Tie as tie
+
+open-requires : tie.Need-open-requires
+open-requires c κs = search needs
+
+width-requires : tie.Need-width-requires
+width-requires c κs = search needs
+
+add-zero-first : tie.Need-add-zero-first
+add-zero-first c = search needs
+
+mul-zero-first : tie.Need-mul-zero-first
+mul-zero-first c =
+    let a = c .before .before .before .before .before in
+    omega (arith, needed-most (a .args .measure) (a .args .n) (a .args .m) (c .before .width .result) (a .pre .few) (a .pre .cap) (c .before .width .ensures))
+
+zero-first-requires : tie.Need-zero-first-requires
+zero-first-requires c κs = rw (c .before .width .ensures) (c .before .before .before .before .before .pre .room)
+
+same-length : tie.Need-same-length
+same-length c = search needs
+
+returns : tie.Need-returns
+returns c =
+    let z = c .before .before .before in
+    let a = z .before .before .before .before .before .before in
+    start-other (a .args .n) (a .args .measure) (a .args .m) _ _ (c .if1 .taken) (z .before .before .before .«open» .ensures) (z .before .before .width .ensures) (z .zero-first .ensures)
+
+-- part m + 3 ends before the needed words do, and those are few and lie in the area
+within : (c : tie.Else1)
+    → let a = c .before .before .before .before .before .before .before .before .before in
+    let e = c .before .before .before .before .before .width .result in
+    ((a .args .m + 2) * e + e ≤ (a .args .m + 4) * e) × ((a .args .m + 4) * e ≤ 8396800)
+    × ((a .args .m + 4) * e ≤ length (c .before .before .before .zero-first .last .0))
+within c =
+    let a = c .before .before .before .before .before .before .before .before .before in
+    let w = c .before .before .before .before .before .width in (
+      lent-end (w .result) {k = a .args .m + 2} {m = a .args .m + 4} (omega arith),
+      needed-most (a .args .measure) (a .args .n) (a .args .m) (w .result) (a .pre .few) (a .pre .cap) (w .ensures),
+      rw (w .ensures, c .before .before .before .zero-first .kept .0) (a .pre .room),
+    )
+
+add-at : tie.Need-add-at
+add-at c = search needs
+
+mul-at : tie.Need-mul-at
+mul-at c = let x = within c .0 in let y = within c .1 in omega arith
+
+add-unite-picks : tie.Need-add-unite-picks
+add-unite-picks c = let x = within c .0 in let y = within c .1 in omega arith
+
+mul-unite-picks : tie.Need-mul-unite-picks
+mul-unite-picks c = let x = within c .0 in let y = within c .1 in omega arith
+
+sub-unite-picks : tie.Need-sub-unite-picks
+sub-unite-picks c = search needs
+
+part-unite-picks-start : tie.Need-part-unite-picks-start
+part-unite-picks-start c = search needs
+
+part-unite-picks-end : tie.Need-part-unite-picks-end
+part-unite-picks-end c = let x = within c .0 in let y = within c .2 in omega arith
+
+unite-picks-requires : tie.Need-unite-picks-requires
+unfolding fresh
+unite-picks-requires c κs =
+    let f = c .before in
+    let w = f .before .before .before .before .before in
+    let a = w .before .before .before .before in (
+      sym (footprint-fills (a .args .measure) (a .args .n) (w .width .result) (a .args .n) (f .if1 .left) (w .width .ensures) refl)
+          ∙ lent-room (w .width .result) (a .args .m + 2) (a .args .m + 4) _ (within f .2) (omega arith),
+      a .pre .few,
+      a .pre .some-picks,
+      a .pre .cap,
+      omega (arith, a .pre .words),
+      ap (λ (x : Place). x .compositions .0) (w .before .«open» .ensures),
+    )
+
+same-length-2 : tie.Need-same-length-2
+same-length-2 c = search needs
+
+returns-2 : tie.Need-returns-2
+returns-2 c =
+    let u = c .before .before in
+    let f = u .before .before in
+    let w = f .before .before .before .before .before in
+    let a = w .before .before .before .before in
+    simp add-sub-cancel-left (start-footprint (a .args .n) (a .args .measure) (a .args .m) _ _ (f .if1 .left) (w .before .«open» .ensures) (w .width .ensures)
+    (f .before .before .before .zero-first .ensures) (u .unite-picks .ensures))
+
+pub whole-start-spec : {M : Type 1} → statement M
+whole-start-spec =
+    tie.close
+    (tie.spec
+    open-requires
+    width-requires
+    add-zero-first
+    mul-zero-first
+    zero-first-requires
+    same-length
+    returns
+    add-at
+    mul-at
+    add-unite-picks
+    mul-unite-picks
+    sub-unite-picks
+    part-unite-picks-start
+    part-unite-picks-end
+    unite-picks-requires
+    same-length-2
+    returns-2)
