@@ -3,7 +3,7 @@ use mathlib.Core.Path.{_≡_, refl, sym, ap, ap₂, _∙_, subst}
 use mathlib.Core.Bool.{Bool, true, false}
 use mathlib.Core.List.{List, _++_}
 use Prim.Native.Nat.{ℕ, zero, suc, _+_, _-_, _*_, _≤_, _<_, zero-le}
-use native.Mathlib.Nat.{le-refl, sub-zero, zero-mul, add-zero, add-assoc}
+use native.Mathlib.Nat.{le-refl, sub-zero, zero-mul, add-assoc}
 use native.Mathlib.Numerals.{add-one}
 use native.Mathlib.Omega.{arith}
 use borrow.Author.Tests.{eq-eqb, ne-eqb}
@@ -22,6 +22,7 @@ use Rattle.verdicts.specs.Verdicts.{needed}
 use Rattle.verdicts.specs.Fit.{Runs}
 use Rattle.steps.specs.Walk.{State, state, kitOf, stepped}
 use Rattle.steps.specs.Fit.{Takes, Ready, Does}
+use Rattle.steps.proofs.Fit.{charged-none}
 use Rattle.steps.proofs.Ready.{step-takes, stepped-framed, step-leaves}
 use Rattle.calls.specs.Calls.{openedArea, unions, stepsOf, wholeStart, wholeAfter}
 use Rattle.calls.specs.Fit.{Starts, Ends}
@@ -43,10 +44,6 @@ unions-next : (n : ℕ) (w : List ℕ) (k : ℕ) → 1 ≤ k → union n (unions
 unfolding unions
 unions-next n w zero h = absurd (omega arith)
 unions-next n w (suc k) h = rw add-one
-
-charged-none : (p : Place) → charged p 0 ≡ p
-unfolding charged
-charged-none p = rw add-zero
 
 charged-on : (p : Place) (x y : ℕ) → charged (charged p x) y ≡ charged p (x + y)
 unfolding charged
@@ -71,7 +68,7 @@ first-long n m w h room = sym (ap length (first-part n w) ∙ lent-long n 0 m w 
 pub united-start : (n m : ℕ) (p : Place) (w t : List ℕ) → 1 ≤ m → m * n ≤ length w → t ≡ take (n - 0) w → United n m p w 1 p t
 unfolding unions
 united-start n m p w t h room e =
-    record { low = le-refl 1; high = h; words = e ∙ first-part n w; long = first-long n m w h room ∙ sym (ap length e); cost = sym (charged-none p) }
+    record { low = le-refl 1; high = h; words = e ∙ first-part n w; long = first-long n m w h room ∙ sym (ap length e); cost = charged-none p }
 
 module _ {n m : ℕ} {p : Place} {w : List ℕ} {k : ℕ} {q : Place} {t : List ℕ} (g : United n m p w k q t) where
   -- the charge does not wrap
@@ -104,7 +101,7 @@ pub start-other : (n measure m : ℕ) (w a : List ℕ) {p : Place} {b : List ℕ
     → b ≡ zeroed ((m + 4) * e) a → (p ≡ wholeStart n measure m w a .place) × (b ≡ wholeStart n measure m w a .area)
 unfolding wholeStart openedArea
 start-other n measure m w a ne f q z = (
-  f ∙ sym (charged-none (fresh measure n m)) ∙ ap (λ (x : Bool). charged (fresh measure n m) (either x (m - 1) 0)) (sym (ne-eqb measure 2 ne)),
+  f ∙ charged-none (fresh measure n m) ∙ ap (λ (x : Bool). charged (fresh measure n m) (either x (m - 1) 0)) (sym (ne-eqb measure 2 ne)),
   z ∙ ap (λ (x : ℕ). zeroed ((m + 4) * x) a) q
       ∙ ap (λ (x : Bool). either x (putPart (widthOf measure n) (zeroed (needed measure n m) a) (m + 3) (unions n w m)) (zeroed (needed measure n m) a)) (sym (ne-eqb measure 2 ne)),
 )
