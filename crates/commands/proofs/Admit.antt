@@ -10,7 +10,8 @@ use lib.ListN.{length, getD}
 use Rattle.model.specs.declared.Board.{Board}
 use Rattle.model.specs.declared.Refusal.{Refusal}
 use Rattle.commands.specs.declared.Command.{Command}
-use Rattle.commands.specs.declared.Command.the-variants.{Boards, Link, Pick, End, Not}
+use Rattle.commands.specs.declared.Command.the-variants.{Boards, Later, Not}
+use Rattle.commands.specs.declared.Item.the-variants.{Link, Pick, End}
 use Rattle.commands.specs.declared.Width.{Width}
 use Rattle.commands.specs.declared.Width.the-variants.{Known, Unknown}
 use Rattle.commands.specs.Commands.{refuse, widthOf, takenApart, commandAt, operandsIn}
@@ -51,9 +52,7 @@ no e = omega arith
 -- not refused
 abbrev Taken : Command → Type 0
 Taken (Boards n) = Unit {0}
-Taken (Link a b v) = Unit {0}
-Taken Pick = Unit {0}
-Taken End = Unit {0}
+Taken (Later i) = Unit {0}
 Taken (Not r) = ⊥
 
 -- what is not refused went past the cause
@@ -67,8 +66,8 @@ pub record Linked (n : ℕ) (links : List ℕ) (a b : ℕ) (v : Bool) : Type 0 w
   pub changes : unchanged v (link links a b) ≡ false
 
 pub admitted-link : (n limit count : ℕ) (links : List ℕ) (x : Command) (a b : Board) (v : Bool)
-    → admitted n limit count links x ≡ Link a b v → Linked n links (a .0) (b .0) v
-admitted-link n limit count links (Link a′ b′ v′) a b v e =
+    → admitted n limit count links x ≡ Later (Link a b v) → Linked n links (a .0) (b .0) v
+admitted-link n limit count links (Later (Link a′ b′ v′)) a b v e =
     let p = past _ _ _ _ e tt in
     let q = past _ _ _ _ (p .1) tt in
     let l = q .1 in
@@ -76,23 +75,23 @@ admitted-link n limit count links (Link a′ b′ v′) a b v e =
     let eb : b′ ≡ b = cc in
     let ev : v′ ≡ v = cc in
     rw (sym ea, sym eb, sym ev) record { able = p .0; changes = q .0 }
-admitted-link n limit count links Pick a b v e =
+admitted-link n limit count links (Later Pick) a b v e =
     let p = past _ _ _ _ e tt in
     let l = p .1 in
     absurd (no cc)
+admitted-link n limit count links (Later End) a b v e = absurd (no cc)
 admitted-link n limit count links (Boards m) a b v e = absurd (no cc)
-admitted-link n limit count links End a b v e = absurd (no cc)
 admitted-link n limit count links (Not r) a b v e = absurd (no cc)
 
-pub admitted-pick : (n limit count : ℕ) (links : List ℕ) (x : Command) → admitted n limit count links x ≡ Pick → count < limit
-admitted-pick n limit count links (Link a b v) e =
+pub admitted-pick : (n limit count : ℕ) (links : List ℕ) (x : Command) → admitted n limit count links x ≡ Later Pick → count < limit
+admitted-pick n limit count links (Later (Link a b v)) e =
     let p = past _ _ _ _ e tt in
     let q = past _ _ _ _ (p .1) tt in
     let l = q .1 in
     absurd (no cc)
-admitted-pick n limit count links Pick e = leb-false limit count (past _ _ _ _ e tt .0)
+admitted-pick n limit count links (Later Pick) e = leb-false limit count (past _ _ _ _ e tt .0)
+admitted-pick n limit count links (Later End) e = absurd (no cc)
 admitted-pick n limit count links (Boards m) e = absurd (no cc)
-admitted-pick n limit count links End e = absurd (no cc)
 admitted-pick n limit count links (Not r) e = absurd (no cc)
 
 -- a command that is taken apart has its operands within the file
@@ -111,19 +110,19 @@ taken-inside first bytes at x e h =
     by Unknown i j = absurd (subst Taken (sym j) h)
 
 -- no later cause makes an end of another command
-admitted-end : (n limit count : ℕ) (links : List ℕ) (x : Command) → admitted n limit count links x ≡ End → x ≡ End
-admitted-end n limit count links (Link a b v) e =
+admitted-end : (n limit count : ℕ) (links : List ℕ) (x : Command) → admitted n limit count links x ≡ Later End → x ≡ Later End
+admitted-end n limit count links (Later (Link a b v)) e =
     let p = past _ _ _ _ e tt in
     past _ _ _ _ (p .1) tt .1
-admitted-end n limit count links Pick e = past _ _ _ _ e tt .1
+admitted-end n limit count links (Later Pick) e = past _ _ _ _ e tt .1
+admitted-end n limit count links (Later End) e = e
 admitted-end n limit count links (Boards m) e = e
-admitted-end n limit count links End e = e
 admitted-end n limit count links (Not r) e = e
 
-pub end-inside : (bytes : List ℕ) (n limit at count : ℕ) (links : List ℕ) → next bytes n limit at count links ≡ End → at < length bytes
+pub end-inside : (bytes : List ℕ) (n limit at count : ℕ) (links : List ℕ) → next bytes n limit at count links ≡ Later End → at < length bytes
 unfolding next
 end-inside bytes n limit at count links e =
-    let h : at + 1 + 0 ≤ length bytes = taken-inside false bytes at End (admitted-end n limit count links _ e) tt in
+    let h : at + 1 + 0 ≤ length bytes = taken-inside false bytes at (Later End) (admitted-end n limit count links _ e) tt in
     omega arith
 
 -- what a first command that is taken says
@@ -142,9 +141,7 @@ boards-fit limit room (Boards m) n e =
     let l = r .1 in
     let em : m ≡ n = cc in
     (l, rw (sym em) (ltb-false m 2 (p .0), (ltb-false 32 m (q .0), ltb-false room (limit * m) (r .0))))
-boards-fit limit room (Link a b v) n e = absurd (no cc)
-boards-fit limit room Pick n e = absurd (no cc)
-boards-fit limit room End n e = absurd (no cc)
+boards-fit limit room (Later i) n e = absurd (no cc)
 boards-fit limit room (Not r) n e = absurd (no cc)
 
 pub headed : (limit room : ℕ) (bytes : List ℕ) (start n : ℕ) → headAt limit room bytes start ≡ Boards n → Headed limit room bytes start n

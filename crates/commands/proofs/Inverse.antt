@@ -8,7 +8,8 @@ use borrow.Author.Tests.{lt-leb, le-ltb}
 use lib.ListN.{length, getD, length-append}
 use lib.Seq.{getD-append-seam, getD-append-add}
 use Rattle.commands.specs.declared.Width.the-variants.{Known}
-use Rattle.commands.specs.declared.Command.the-variants.{Boards, Link, Pick, End}
+use Rattle.commands.specs.declared.Command.the-variants.{Boards, Later}
+use Rattle.commands.specs.declared.Item.the-variants.{Link, Pick, End}
 use Rattle.commands.specs.Commands.{misplaced, lookup, widthOf, refuse, commandOf, commandAt}
 
 -- a command byte in its place, with its k operands behind it, is taken apart to what it says, whatever stands before and after
@@ -27,18 +28,18 @@ module _ (pre post : List ℕ) where
   unfolding widthOf lookup commandOf
   boards-here n = command-here true pre (n ∷ post) 0x42 1 refl refl (omega arith)
 
-  pub opens-here : (a b : ℕ) → commandAt false (pre ++ (0x4F ∷ a ∷ b ∷ post)) (length pre) ≡ Link (record { 0 = a }) (record { 0 = b }) true
+  pub opens-here : (a b : ℕ) → commandAt false (pre ++ (0x4F ∷ a ∷ b ∷ post)) (length pre) ≡ Later (Link (record { 0 = a }) (record { 0 = b }) true)
   unfolding widthOf lookup commandOf
   opens-here a b = command-here false pre (a ∷ b ∷ post) 0x4F 2 refl refl (omega arith)
 
-  pub shuts-here : (a b : ℕ) → commandAt false (pre ++ (0x53 ∷ a ∷ b ∷ post)) (length pre) ≡ Link (record { 0 = a }) (record { 0 = b }) false
+  pub shuts-here : (a b : ℕ) → commandAt false (pre ++ (0x53 ∷ a ∷ b ∷ post)) (length pre) ≡ Later (Link (record { 0 = a }) (record { 0 = b }) false)
   unfolding widthOf lookup commandOf
   shuts-here a b = command-here false pre (a ∷ b ∷ post) 0x53 2 refl refl (omega arith)
 
-  pub pick-here : commandAt false (pre ++ (0x50 ∷ post)) (length pre) ≡ Pick
+  pub pick-here : commandAt false (pre ++ (0x50 ∷ post)) (length pre) ≡ Later Pick
   unfolding widthOf lookup commandOf
   pick-here = command-here false pre post 0x50 0 refl refl (omega arith)
 
-  pub end-here : commandAt false (pre ++ (0x45 ∷ post)) (length pre) ≡ End
+  pub end-here : commandAt false (pre ++ (0x45 ∷ post)) (length pre) ≡ Later End
   unfolding widthOf lookup commandOf
   end-here = command-here false pre post 0x45 0 refl refl (omega arith)

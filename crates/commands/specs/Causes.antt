@@ -6,7 +6,8 @@ use lib.Dec.{eqb, ltb, leb}
 use Rattle.model.specs.Recording.{link}
 use Rattle.model.specs.declared.Refusal.the-variants as cause
 use Rattle.commands.specs.declared.Command.{Command}
-use Rattle.commands.specs.declared.Command.the-variants.{Boards, Link, Pick, End, Not}
+use Rattle.commands.specs.declared.Command.the-variants.{Boards, Later, Not}
+use Rattle.commands.specs.declared.Item.the-variants.{Link, Pick, End}
 use Rattle.commands.specs.Commands.{refuse, commandAt}
 
 -- link operands equal, or n or above
@@ -22,9 +23,7 @@ unchanged false isOpen = not isOpen
 abbrev pub boardsFit : ℕ → ℕ → Command → Command
 boardsFit limit room (Boards n) =
     refuse (ltb n 2) cause.Boards (refuse (ltb 32 n) cause.Boards (refuse (ltb room (limit * n)) cause.Room (Boards n)))
-boardsFit limit room (Link a b v) = Link a b v
-boardsFit limit room Pick = Pick
-boardsFit limit room End = End
+boardsFit limit room (Later i) = Later i
 boardsFit limit room (Not r) = Not r
 
 unfoldable pub headAt : ℕ → ℕ → List ℕ → ℕ → Command
@@ -33,11 +32,11 @@ headAt limit room bytes start =
 
 -- a later command, with n boards, `count` picks so far and the open links: 13, then 14; 7 at a 50 beyond the limit
 abbrev pub admitted : ℕ → ℕ → ℕ → List ℕ → Command → Command
-admitted n limit count links (Link a b v) =
-    refuse (noLink n (a .0) (b .0)) cause.Operands (refuse (unchanged v (link links (a .0) (b .0))) cause.Unchanged (Link a b v))
-admitted n limit count links Pick = refuse (leb limit count) cause.Full Pick
+admitted n limit count links (Later (Link a b v)) =
+    refuse (noLink n (a .0) (b .0)) cause.Operands (refuse (unchanged v (link links (a .0) (b .0))) cause.Unchanged (Later (Link a b v)))
+admitted n limit count links (Later Pick) = refuse (leb limit count) cause.Full (Later Pick)
+admitted n limit count links (Later End) = Later End
 admitted n limit count links (Boards m) = Boards m
-admitted n limit count links End = End
 admitted n limit count links (Not r) = Not r
 
 unfoldable pub next : List ℕ → ℕ → ℕ → ℕ → ℕ → List ℕ → Command

@@ -10,7 +10,8 @@ use Rattle.commands.specs.declared.Shape.{Shape}
 use Rattle.commands.specs.declared.Width.{Width}
 use Rattle.commands.specs.declared.Width.the-variants.{Known, Unknown}
 use Rattle.commands.specs.declared.Command.{Command}
-use Rattle.commands.specs.declared.Command.the-variants.{Boards, Link, Pick, End, Not}
+use Rattle.commands.specs.declared.Command.the-variants.{Boards, Later, Not}
+use Rattle.commands.specs.declared.Item.the-variants.{Link, Pick, End}
 
 -- command byte and operand count
 abbrev pub shapes : List Shape
@@ -48,9 +49,9 @@ either false a b = b
 unfoldable pub commandOf : ℕ → ℕ → ℕ → Command
 commandOf b x y =
     either (eqb b 0x42) (Boards x)
-    (either (eqb b 0x4F) (Link (record { 0 = x }) (record { 0 = y }) true)
-    (either (eqb b 0x53) (Link (record { 0 = x }) (record { 0 = y }) false)
-    (either (eqb b 0x50) Pick End)))
+    (either (eqb b 0x4F) (Later (Link (record { 0 = x }) (record { 0 = y }) true))
+    (either (eqb b 0x53) (Later (Link (record { 0 = x }) (record { 0 = y }) false))
+    (either (eqb b 0x50) (Later Pick) (Later End))))
 
 -- 42 stands first, and only there
 abbrev pub misplaced : Bool → ℕ → Bool
@@ -74,9 +75,9 @@ commandAt first bytes at =
 -- how many operands a command has
 abbrev pub operandsIn : Command → ℕ
 operandsIn (Boards n) = 1
-operandsIn (Link a b v) = 2
-operandsIn Pick = 0
-operandsIn End = 0
+operandsIn (Later (Link a b v)) = 2
+operandsIn (Later Pick) = 0
+operandsIn (Later End) = 0
 operandsIn (Not r) = 0
 
 abbrev pub isWidth : Width → ℕ → Bool

@@ -8,12 +8,17 @@ ghost use Rattle.commands.specs.Causes.{noLink, unchanged, headAt, next 
 use model::Board;
 use model::Refusal;
 
-// A command taken apart, or why it is refused. A link opens (true) or shuts (false).
-pub enum Command {
-    Boards(usize),
+// What may stand after the 42 and its n. A link opens (true) or shuts (false).
+pub enum Item {
     Link(Board, Board, bool),
     Pick,
     End,
+}
+
+// A command taken apart, or why it is refused.
+pub enum Command {
+    Boards(usize),
+    Later(Item),
     Not(Refusal),
 }
 
@@ -83,15 +88,15 @@ fn command_of(byte: u8, x: usize, y: usize) -> Command
         return Command::Boards(x);
     }
     if byte == 0x4F {
-        return Command::Link(Board(x), Board(y), true);
+        return Command::Later(Item::Link(Board(x), Board(y), true));
     }
     if byte == 0x53 {
-        return Command::Link(Board(x), Board(y), false);
+        return Command::Later(Item::Link(Board(x), Board(y), false));
     }
     if byte == 0x50 {
-        return Command::Pick;
+        return Command::Later(Item::Pick);
     }
-    Command::End
+    Command::Later(Item::End)
 }
 
 // The byte at a place, or 0 past the end.
@@ -181,8 +186,11 @@ pub fn next(bytes: &[u8], at: usize, n: usize, limit: usize, picks: usize, links
     ensures { λ r. ⌜ r ≡ nextOf (now (bytes .entry)) n limit at picks (now (links .entry)) ⌝ }
 {
     let command = command_at(bytes, at, false);
-    match command {
-        Command::Link(from, to, opens) => {
+    let Command::Later(item) = command else {
+        return command;
+    };
+    match item {
+        Item::Link(from, to, opens) => {
             if no_link(from, to, n) {
                 return Command::Not(Refusal::Operands);
             }
@@ -191,12 +199,12 @@ pub fn next(bytes: &[u8], at: usize, n: usize, limit: usize, picks: usize, links
             }
             command
         }
-        Command::Pick => {
+        Item::Pick => {
             if limit <= picks {
                 return Command::Not(Refusal::Full);
             }
             command
         }
-        _ => command,
+        Item::End => command,
     }
 }

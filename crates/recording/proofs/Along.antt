@@ -8,14 +8,17 @@ use borrow.Author.Tests.{le-leb}
 use mathlib.Core.Bool.{Bool, false}
 use lib.ListN.{length, length-append}
 use Rattle.commands.proofs.Admit.{in-links, admitted-link, admitted-pick}
+use Rattle.commands.proofs.Others.{NotLater}
 use Rattle.model.specs.declared.Board.{Board}
-use Rattle.model.specs.declared.Refusal.{Refusal}
 use Rattle.model.specs.declared.Refusal.the-variants as cause
 use Rattle.commands.specs.declared.Command.{Command}
-use Rattle.commands.specs.declared.Command.the-variants.{Boards, Link, Pick, End, Not}
+use Rattle.commands.specs.declared.Command.the-variants.{Later}
+use Rattle.commands.specs.declared.Item.{Item}
+use Rattle.commands.specs.declared.Item.the-variants.{Link, Pick, End}
 use Rattle.commands.specs.Commands.{refuse, commandAt}
 use Rattle.commands.specs.Causes.{next}
-use Rattle.recording.specs.Format.{Content, ended, refused, flipped, follow, commands}
+use Rattle.recording.specs.Format.{Content, ended, refused, flipped, follow, commands, refusalIn}
+use Rattle.recording.proofs.Others.{follow-other}
 
 -- `whole` is what the reading from a place, after some picks and with these links, comes to
 pub record Along (bytes : List ℕ) (n limit : ℕ) (whole : Content) (at count : ℕ) (links : List ℕ) : Type 0 where
@@ -30,48 +33,49 @@ unfoldable pub along-start : (bytes : List ℕ) (n limit start : ℕ) (links : L
 along-start bytes n limit start links = record { turns = length bytes; picks = []; enough = omega arith; counted = refl; rest = refl }
 
 module _ {bytes : List ℕ} {n limit : ℕ} {whole : Content} {at count : ℕ} {links : List ℕ} (a : Along bytes n limit whole at count links) where
-  -- x is what `next` returned, and y the arm that the loop then takes
+  -- x is what `next` returned
   module _ {x : Command} (e : x ≡ next bytes n limit at count links) where
-    -- a link's operands are an index of the links and a shift
-    pub along-able : {f t : Board} {v : Bool} → x ≡ Link f t v → n ≡ length links → n ≤ 32 → (f .0 < length links) × (t .0 < 32)
-    unfolding next
-    along-able {f} {t} {v} q l h =
-        in-links n (f .0) (t .0) (length links) (admitted-link n limit count links (commandAt false bytes at) f t v (sym e ∙ q) .able) l h
+    -- one turn: the next command, followed
+    pub turn : at < length bytes → {y : Command} → x ≡ y → follow (commands bytes n limit (a .turns - 1)) n at (a .picks) links y ≡ whole
+    unfolding commands
+    turn h q =
+        let k : a .turns ≡ suc (a .turns - 1) = omega (arith, a .enough) in
+        rw (sym q, e, a .counted) (rw k at (a .rest))
 
-    -- a pick is within the limit
-    pub along-within : x ≡ Pick → count < limit
-    unfolding next
-    along-within q = admitted-pick n limit count links (commandAt false bytes at) (sym e ∙ q)
+    -- a command that cannot be taken apart ends the reading
+    pub along-other : at < length bytes → NotLater x → whole ≡ refused (refusalIn x)
+    along-other h k = sym (turn h refl) ∙ follow-other _ n at (a .picks) links x k
 
-    module _ (h : at < length bytes) where
-      -- one turn: the next command, followed
-      pub turn : {y : Command} → x ≡ y → follow (commands bytes n limit (a .turns - 1)) n at (a .picks) links y ≡ whole
-      unfolding commands
-      turn q =
-          let k : a .turns ≡ suc (a .turns - 1) = omega (arith, a .enough) in
-          rw (sym q, e, a .counted) (rw k at (a .rest))
+    -- i is the item that x was taken apart to
+    module _ {i : Item} (m : x ≡ Later i) where
+      -- a link's operands are an index of the links and a shift
+      pub along-able : {f t : Board} {v : Bool} → i ≡ Link f t v → n ≡ length links → n ≤ 32 → (f .0 < length links) × (t .0 < 32)
+      unfolding next
+      along-able {f} {t} {v} q l h =
+          in-links n (f .0) (t .0) (length links) (admitted-link n limit count links (commandAt false bytes at) f t v (sym e ∙ m ∙ ap Later q) .able) l h
 
-      unfoldable pub along-link : {f t : Board} {v : Bool} → x ≡ Link f t v → Along bytes n limit whole (at + 3) count (flipped links (f .0) (t .0))
-      along-link q = record { turns = a .turns - 1; picks = a .picks; enough = omega (arith, a .enough); counted = a .counted; rest = turn q }
+      -- a pick is within the limit
+      pub along-within : i ≡ Pick → count < limit
+      unfolding next
+      along-within q = admitted-pick n limit count links (commandAt false bytes at) (sym e ∙ m ∙ ap Later q)
 
-      unfoldable pub along-pick : x ≡ Pick → Along bytes n limit whole (at + 1) (count + 1) links
-      along-pick q =
-          record {
-            turns = a .turns - 1;
-            picks = a .picks ++ (links ∷ []);
-            enough = omega (arith, a .enough);
-            counted = ap (λ (k : ℕ). k + 1) (a .counted) ∙ sym (length-append (a .picks) (links ∷ []));
-            rest = turn q;
-          }
+      module _ (h : at < length bytes) where
+        unfoldable pub along-link : {f t : Board} {v : Bool} → i ≡ Link f t v → Along bytes n limit whole (at + 3) count (flipped links (f .0) (t .0))
+        along-link q =
+            record { turns = a .turns - 1; picks = a .picks; enough = omega (arith, a .enough); counted = a .counted; rest = turn h (m ∙ ap Later q) }
 
-      pub along-end : x ≡ End → whole ≡ ended n (a .picks) (at + 1)
-      along-end q = sym (turn q)
+        unfoldable pub along-pick : i ≡ Pick → Along bytes n limit whole (at + 1) (count + 1) links
+        along-pick q =
+            record {
+              turns = a .turns - 1;
+              picks = a .picks ++ (links ∷ []);
+              enough = omega (arith, a .enough);
+              counted = ap (λ (k : ℕ). k + 1) (a .counted) ∙ sym (length-append (a .picks) (links ∷ []));
+              rest = turn h (m ∙ ap Later q);
+            }
 
-      pub along-boards : {m : ℕ} → x ≡ Boards m → whole ≡ refused cause.Command
-      along-boards q = sym (turn q)
-
-      pub along-not : {r : Refusal} → x ≡ Not r → whole ≡ refused r
-      along-not q = sym (turn q)
+        pub along-end : i ≡ End → whole ≡ ended n (a .picks) (at + 1)
+        along-end q = sym (turn h (m ∙ ap Later q))
 
 -- the file has stopped
 pub stopped : (bytes : List ℕ) (n limit turns at : ℕ) (picks : List (List ℕ)) (links : List ℕ) → length bytes ≤ at

@@ -10,7 +10,8 @@ use Rattle.lists.specs.Tab.{zeros}
 use Rattle.commands.specs.declared.Width.{Width}
 use Rattle.commands.specs.declared.Width.the-variants.{Known, Unknown}
 use Rattle.commands.specs.declared.Command.{Command}
-use Rattle.commands.specs.declared.Command.the-variants.{Boards, Link, Pick, End, Not}
+use Rattle.commands.specs.declared.Command.the-variants.{Boards, Later, Not}
+use Rattle.commands.specs.declared.Item.the-variants.{Link, Pick, End}
 use Rattle.commands.specs.Commands.{refuse, either, commandOf, takenApart, widthOf, commandAt}
 use Rattle.commands.specs.Causes.{boardsFit, headAt, admitted, next}
 use Rattle.recording.specs.Format.{Content, ended, refused, follow, commands, opened, recordingAt, unless, alone, readFile}
@@ -37,9 +38,7 @@ ofFile cause.BadPlace = false
 abbrev Told : Command → Type 0
 Told (Not r) = T (ofFile r)
 Told (Boards n) = Unit
-Told (Link a b v) = Unit
-Told Pick = Unit
-Told End = Unit
+Told (Later i) = Unit
 
 abbrev pub Caused : Content → Type 0
 Caused (ended n picks end) = Unit
@@ -70,9 +69,7 @@ told-at first bytes at = told-refuse _ cause.Stopped _ tt (told-refuse _ cause.C
 
 told-fit : (limit room : ℕ) (c : Command) → Told c → Told (boardsFit limit room c)
 told-fit limit room (Boards n) h = told-refuse _ cause.Boards _ tt (told-refuse _ cause.Boards _ tt (told-refuse _ cause.Room _ tt tt))
-told-fit limit room (Link a b v) h = tt
-told-fit limit room Pick h = tt
-told-fit limit room End h = tt
+told-fit limit room (Later i) h = tt
 told-fit limit room (Not r) h = h
 
 told-head : (limit room : ℕ) (bytes : List ℕ) (start : ℕ) → Told (headAt limit room bytes start)
@@ -81,10 +78,10 @@ told-head limit room bytes start =
     told-refuse _ cause.Picks _ tt (told-refuse _ cause.Picks _ tt (told-fit limit room (commandAt true bytes start) (told-at true bytes start)))
 
 told-admitted : (n limit count : ℕ) (links : List ℕ) (c : Command) → Told c → Told (admitted n limit count links c)
-told-admitted n limit count links (Link a b v) h = told-refuse _ cause.Operands _ tt (told-refuse _ cause.Unchanged _ tt tt)
-told-admitted n limit count links Pick h = told-refuse _ cause.Full _ tt tt
+told-admitted n limit count links (Later (Link a b v)) h = told-refuse _ cause.Operands _ tt (told-refuse _ cause.Unchanged _ tt tt)
+told-admitted n limit count links (Later Pick) h = told-refuse _ cause.Full _ tt tt
+told-admitted n limit count links (Later End) h = tt
 told-admitted n limit count links (Boards m) h = tt
-told-admitted n limit count links End h = tt
 told-admitted n limit count links (Not r) h = h
 
 told-next : (bytes : List ℕ) (n limit at count : ℕ) (links : List ℕ) → Told (next bytes n limit at count links)
@@ -95,9 +92,9 @@ told-next bytes n limit at count links = told-admitted n limit count links (comm
 
 caused-follow : (more : ℕ → List (List ℕ) → List ℕ → Content) → ((at : ℕ) (picks : List (List ℕ)) (links : List ℕ) → Caused (more at picks links))
     → (n at : ℕ) (picks : List (List ℕ)) (links : List ℕ) (c : Command) → Told c → Caused (follow more n at picks links c)
-caused-follow more h n at picks links (Link a b v) k = h (at + 3) picks _
-caused-follow more h n at picks links Pick k = h (at + 1) (picks ++ (links ∷ [])) links
-caused-follow more h n at picks links End k = tt
+caused-follow more h n at picks links (Later (Link a b v)) k = h (at + 3) picks _
+caused-follow more h n at picks links (Later Pick) k = h (at + 1) (picks ++ (links ∷ [])) links
+caused-follow more h n at picks links (Later End) k = tt
 caused-follow more h n at picks links (Boards m) k = tt
 caused-follow more h n at picks links (Not r) k = k
 
@@ -110,9 +107,7 @@ caused-commands bytes n limit (suc turns) at picks links =
 
 caused-opened : (limit : ℕ) (bytes : List ℕ) (start : ℕ) (c : Command) → Told c → Caused (opened limit bytes start c)
 caused-opened limit bytes start (Boards n) h = caused-commands bytes n limit (length bytes) (start + 2) [] (zeros n)
-caused-opened limit bytes start (Link a b v) h = tt
-caused-opened limit bytes start Pick h = tt
-caused-opened limit bytes start End h = tt
+caused-opened limit bytes start (Later i) h = tt
 caused-opened limit bytes start (Not r) h = h
 
 pub caused-at : (limit room : ℕ) (bytes : List ℕ) (start : ℕ) → Caused (recordingAt limit room bytes start)

@@ -6,7 +6,8 @@ use Prim.Native.Nat.{ℕ, zero, suc, _+_, _≤_, _<_}
 use native.Mathlib.Omega.{arith}
 use lib.ListN.{length}
 use Rattle.commands.specs.declared.Command.{Command}
-use Rattle.commands.specs.declared.Command.the-variants.{Boards, Link, Pick, End, Not}
+use Rattle.commands.specs.declared.Command.the-variants.{Boards, Later, Not}
+use Rattle.commands.specs.declared.Item.the-variants.{Link, Pick, End}
 use Rattle.commands.specs.Causes.{next}
 use Rattle.recording.specs.Format.{Content, follow, commands}
 use Rattle.recording.proofs.Along.{stopped}
@@ -14,9 +15,9 @@ use Rattle.recording.proofs.Along.{stopped}
 follow-same : (m₁ m₂ : ℕ → List (List ℕ) → List ℕ → Content) (n at : ℕ) (picks : List (List ℕ)) (links : List ℕ)
     → ((to : ℕ) (ps : List (List ℕ)) (ls : List ℕ) → at < to → m₁ to ps ls ≡ m₂ to ps ls) → (x : Command)
     → follow m₁ n at picks links x ≡ follow m₂ n at picks links x
-follow-same m₁ m₂ n at picks links h (Link a b v) = h (at + 3) picks _ (omega arith)
-follow-same m₁ m₂ n at picks links h Pick = h (at + 1) (picks ++ (links ∷ [])) links (omega arith)
-follow-same m₁ m₂ n at picks links h End = refl
+follow-same m₁ m₂ n at picks links h (Later (Link a b v)) = h (at + 3) picks _ (omega arith)
+follow-same m₁ m₂ n at picks links h (Later Pick) = h (at + 1) (picks ++ (links ∷ [])) links (omega arith)
+follow-same m₁ m₂ n at picks links h (Later End) = refl
 follow-same m₁ m₂ n at picks links h (Boards m) = refl
 follow-same m₁ m₂ n at picks links h (Not r) = refl
 

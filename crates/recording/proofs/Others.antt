@@ -1,4 +1,4 @@
--- What the `_` arm of a `match` and the other case of a `let .. else` say: the command is none of the constructors named before.
+-- What the other case of a `let .. else` and the `_` arm of a `match` say: the command has none of the constructors named before.
 -- Assumes nothing.
 use mathlib.Core.Path.{_≡_, refl}
 use mathlib.Core.List.{List, [], _∷_}
@@ -7,23 +7,24 @@ use denote.Enum.Declared.{tagOf}
 use types.Run.{OneOf, miss}
 use Rattle.model.specs.declared.Refusal.the-variants as cause
 use Rattle.commands.proofs.Command as command
+use Rattle.commands.proofs.Others.{NotBoards, not-boards, NotLater, not-later}
 use Rattle.commands.specs.declared.Command.{Command}
-use Rattle.commands.specs.declared.Command.the-variants.{Boards, Link, Pick, End, Not}
-use Rattle.recording.specs.Format.{opened, refused, refusalIn}
+use Rattle.commands.specs.declared.Command.the-variants.{Boards, Later, Not}
+use Rattle.recording.specs.Format.{Content, refused, follow, opened, refusalIn}
 
--- not `Boards`
-pub opened-other : (limit : ℕ) (bytes : List ℕ) (start : ℕ) (x : Command) → OneOf (1 ∷ 2 ∷ 3 ∷ 4 ∷ []) (tagOf command.the-type x)
-    → opened limit bytes start x ≡ refused (refusalIn x)
-opened-other limit bytes start (Boards n) k = absurd (miss (1 ∷ 2 ∷ 3 ∷ 4 ∷ []) 0 tt k)
-opened-other limit bytes start (Link a b v) k = refl
-opened-other limit bytes start Pick k = refl
-opened-other limit bytes start End k = refl
+pub opened-other : (limit : ℕ) (bytes : List ℕ) (start : ℕ) (x : Command) → NotBoards x → opened limit bytes start x ≡ refused (refusalIn x)
+opened-other limit bytes start (Boards n) k = absurd (not-boards n k)
+opened-other limit bytes start (Later i) k = refl
 opened-other limit bytes start (Not r) k = refl
 
+pub follow-other : (more : ℕ → List (List ℕ) → List ℕ → Content) (n at : ℕ) (picks : List (List ℕ)) (links : List ℕ) (x : Command) → NotLater x
+    → follow more n at picks links x ≡ refused (refusalIn x)
+follow-other more n at picks links (Boards m) k = refl
+follow-other more n at picks links (Later i) k = absurd (not-later i k)
+follow-other more n at picks links (Not r) k = refl
+
 -- not `Not`
-pub refusal-other : (x : Command) → OneOf (0 ∷ 1 ∷ 2 ∷ 3 ∷ []) (tagOf command.the-type x) → refusalIn x ≡ cause.Command
+pub refusal-other : (x : Command) → OneOf (0 ∷ 1 ∷ []) (tagOf command.the-type x) → refusalIn x ≡ cause.Command
 refusal-other (Boards m) k = refl
-refusal-other (Link a b v) k = refl
-refusal-other Pick k = refl
-refusal-other End k = refl
-refusal-other (Not r) k = absurd (miss (0 ∷ 1 ∷ 2 ∷ 3 ∷ []) 4 tt k)
+refusal-other (Later i) k = refl
+refusal-other (Not r) k = absurd (miss (0 ∷ 1 ∷ []) 2 tt k)

@@ -8,7 +8,8 @@ use native.Mathlib.Omega.{arith}
 use lib.ListN.{length, length-append}
 use Rattle.model.specs.declared.Refusal.{Refusal}
 use Rattle.commands.specs.declared.Command.{Command}
-use Rattle.commands.specs.declared.Command.the-variants.{Boards, Link, Pick, End, Not}
+use Rattle.commands.specs.declared.Command.the-variants.{Boards, Later, Not}
+use Rattle.commands.specs.declared.Item.the-variants.{Link, Pick, End}
 use Rattle.recording.specs.declared.Part.the-variants as partIs
 use Rattle.commands.specs.Commands.{commandAt}
 use Rattle.commands.specs.Causes.{next, headAt}
@@ -46,15 +47,15 @@ module _ (bytes : List ℕ) (n limit start : ℕ) where
       → (at : ℕ) (picks : List (List ℕ)) (links : List ℕ) (x : Command) → next bytes n limit at (length picks) links ≡ x
       → Good bytes n limit start at picks links → Lawful bytes n limit start (follow more n at picks links x)
   unfolding next
-  step more ih at picks links (Link a b v) e g =
+  step more ih at picks links (Later (Link a b v)) e g =
       let l = admitted-link n limit (length picks) links (commandAt false bytes at) a b v e in
       ih (at + 3) picks _
       record { on = omega (arith, g .on); few = g .few; clean = g .clean; now = clean-flip n links (a .0) (b .0) (g .now) (linkable n (a .0) (b .0) (l .able)) }
-  step more ih at picks links Pick e g =
+  step more ih at picks links (Later Pick) e g =
       let h = admitted-pick n limit (length picks) links (commandAt false bytes at) e in
       ih (at + 1) (picks ++ (links ∷ [])) links
       record { on = omega (arith, g .on); few = rw length-append (omega arith); clean = rec-append n picks (links ∷ []) (g .clean) (g .now, tt); now = g .now }
-  step more ih at picks links End e g =
+  step more ih at picks links (Later End) e g =
       let h = end-inside bytes n limit at (length picks) links e in
       record { boards = refl; few = g .few; clean = g .clean; after = omega (arith, g .on); inside = omega arith }
   step more ih at picks links (Boards m) e g = tt
@@ -94,9 +95,7 @@ module _ (limit room : ℕ) (bytes : List ℕ) (start n : ℕ) (picks : List (Li
 
   by-head : (x : Command) → headAt limit room bytes start ≡ x → opened limit bytes start x ≡ ended n picks end → Found limit room bytes start n picks end
   by-head (Boards m) q i = by-body m (headed limit room bytes start m q) _ refl (body-lawful bytes m limit start) i
-  by-head (Link a b v) q i = absurd (no cc)
-  by-head Pick q i = absurd (no cc)
-  by-head End q i = absurd (no cc)
+  by-head (Later j) q i = absurd (no cc)
   by-head (Not r) q i = absurd (no cc)
 
   pub found : recordingAt limit room bytes start ≡ ended n picks end → Found limit room bytes start n picks end

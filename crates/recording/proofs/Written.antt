@@ -5,15 +5,15 @@ use mathlib.Core.List.{List, [], _∷_, _++_, append-nil, append-assoc}
 use Prim.Native.Nat.{ℕ, _+_, _*_, _≤_, _<_}
 use native.Mathlib.Nat.{mul-le-mul-right, zero-mul}
 use native.Mathlib.Omega.{arith}
-use denote.Enum.Declared.{tagOf}
-use types.Run.{OneOf, miss}
 use lib.ListN.{length, drop, length-append}
 use lib.Seq.{take-at, drop-at, drop-drop}
-use Rattle.commands.proofs.Command as command
-use Rattle.recording.proofs.Along.{Along, along-start, along-link, along-pick, along-end, along-boards, along-not, along-stop}
+use Rattle.commands.proofs.Others.{NotLater}
+use Rattle.recording.proofs.Along.{Along, along-start, along-link, along-pick, along-end, along-other, along-stop}
 use Rattle.model.specs.declared.Board.{Board}
 use Rattle.commands.specs.declared.Command.{Command}
-use Rattle.commands.specs.declared.Command.the-variants.{Boards, Link, Pick, End, Not}
+use Rattle.commands.specs.declared.Command.the-variants.{Later}
+use Rattle.commands.specs.declared.Item.{Item}
+use Rattle.commands.specs.declared.Item.the-variants.{Link, Pick, End}
 use Rattle.commands.specs.Causes.{next}
 use Rattle.recording.specs.Format.{Content, flipped, commands, words, over, putAt, stored, isEnded}
 
@@ -44,29 +44,26 @@ written-start bytes n limit start links out = record { along = along-start bytes
 
 module _ {bytes : List ℕ} {n limit : ℕ} {whole : Content} {at count : ℕ} {links out₀ out : List ℕ} (w : Written bytes n limit whole at count links out₀ out) where
   module _ {x : Command} (e : x ≡ next bytes n limit at count links) (h : at < length bytes) where
-    pub written-link : {f t : Board} {v : Bool} → x ≡ Link f t v → Written bytes n limit whole (at + 3) count (flipped links (f .0) (t .0)) out₀ out
-    unfolding along-link
-    written-link q = record { along = along-link (w .along) e h q; long = w .long; front = w .front }
+    module _ {i : Item} (m : x ≡ Later i) where
+      pub written-link : {f t : Board} {v : Bool} → i ≡ Link f t v → Written bytes n limit whole (at + 3) count (flipped links (f .0) (t .0)) out₀ out
+      unfolding along-link
+      written-link q = record { along = along-link (w .along) e m h q; long = w .long; front = w .front }
 
-    pub written-pick : x ≡ Pick → n ≡ length links → Written bytes n limit whole (at + 1) (count + 1) links out₀ (putAt out (count * n) links)
-    unfolding along-pick
-    written-pick q l =
-        record {
-          along = along-pick (w .along) e h q;
-          long = rw (words-snoc, length-append) (omega (arith, w .long));
-          front = rw (w .front, words-snoc) (put-over (words (w .along .picks)) links out₀ (count * n) (w .long));
-        }
+      pub written-pick : i ≡ Pick → n ≡ length links → Written bytes n limit whole (at + 1) (count + 1) links out₀ (putAt out (count * n) links)
+      unfolding along-pick
+      written-pick q l =
+          record {
+            along = along-pick (w .along) e m h q;
+            long = rw (words-snoc, length-append) (omega (arith, w .long));
+            front = rw (w .front, words-snoc) (put-over (words (w .along .picks)) links out₀ (count * n) (w .long));
+          }
 
-  -- the loop's other way out
+      pub written-end : i ≡ End → out ≡ stored whole out₀
+      written-end q = rw (along-end (w .along) e m h q) (w .front)
+
+    -- the loop's other ways out, which a file that is not refused never takes
+    pub written-other : NotLater x → isEnded whole ≡ true → out ≡ stored whole out₀
+    written-other k t = absurd (false≢true (rw (along-other (w .along) e h k) at t))
+
   pub written-stop : length bytes ≤ at → isEnded whole ≡ true → out ≡ stored whole out₀
   written-stop h t = absurd (false≢true (rw (along-stop (w .along) h) at t))
-
--- a turn that is neither a link nor a pick: the end, where the file is not refused
-pub written-done : {bytes : List ℕ} {n limit : ℕ} {whole : Content} {at count : ℕ} {links out₀ out : List ℕ}
-    → Written bytes n limit whole at count links out₀ out → (x : Command) → x ≡ next bytes n limit at count links → at < length bytes
-    → OneOf (0 ∷ 3 ∷ 4 ∷ []) (tagOf command.the-type x) → isEnded whole ≡ true → out ≡ stored whole out₀
-written-done w (Boards m) e h k t = absurd (false≢true (rw (along-boards (w .along) e h refl) at t))
-written-done w (Link a b v) e h k t = absurd (miss (0 ∷ 3 ∷ 4 ∷ []) 1 tt k)
-written-done w Pick e h k t = absurd (miss (0 ∷ 3 ∷ 4 ∷ []) 2 tt k)
-written-done w End e h k t = rw (along-end (w .along) e h refl) (w .front)
-written-done w (Not r) e h k t = absurd (false≢true (rw (along-not (w .along) e h refl) at t))

@@ -9,7 +9,8 @@ use Rattle.model.specs.declared.Refusal.{Refusal}
 use Rattle.model.specs.declared.Refusal.the-variants as cause
 use Rattle.lists.specs.Tab.{zeros}
 use Rattle.commands.specs.declared.Command.{Command}
-use Rattle.commands.specs.declared.Command.the-variants.{Boards, Link, Pick, End, Not}
+use Rattle.commands.specs.declared.Command.the-variants.{Boards, Later, Not}
+use Rattle.commands.specs.declared.Item.the-variants.{Link, Pick, End}
 use Rattle.commands.specs.Causes.{headAt, next}
 
 -- what a file says: n, the picks (n words each) and the place behind its 45; or why it is refused
@@ -25,9 +26,9 @@ flipped links a b = set links a (bitXor (getD links a 0) (2 ^ b))
 
 -- a command that is not refused is followed: `more` reads on from a place, with the picks and the open links
 abbrev pub follow : (ℕ → List (List ℕ) → List ℕ → Content) → ℕ → ℕ → List (List ℕ) → List ℕ → Command → Content
-follow more n at picks links (Link a b v) = more (at + 3) picks (flipped links (a .0) (b .0))
-follow more n at picks links Pick = more (at + 1) (picks ++ (links ∷ [])) links
-follow more n at picks links End = ended n picks (at + 1)
+follow more n at picks links (Later (Link a b v)) = more (at + 3) picks (flipped links (a .0) (b .0))
+follow more n at picks links (Later Pick) = more (at + 1) (picks ++ (links ∷ [])) links
+follow more n at picks links (Later End) = ended n picks (at + 1)
 follow more n at picks links (Boards m) = refused cause.Command
 follow more n at picks links (Not r) = refused r
 
@@ -37,12 +38,11 @@ commands bytes n limit zero at picks links = refused cause.Stopped
 commands bytes n limit (suc turns) at picks links =
     follow (commands bytes n limit turns) n at picks links (next bytes n limit at (length picks) links)
 
+-- why a command ends the reading: the cause that refused it, or that it may not stand where it does
 abbrev pub refusalIn : Command → Refusal
 refusalIn (Not r) = r
 refusalIn (Boards n) = cause.Command
-refusalIn (Link a b v) = cause.Command
-refusalIn Pick = cause.Command
-refusalIn End = cause.Command
+refusalIn (Later i) = cause.Command
 
 -- what follows the 42 and its n; all links start shut
 abbrev pub body : ℕ → List ℕ → ℕ → ℕ → Content
@@ -50,9 +50,7 @@ body limit bytes start n = commands bytes n limit (length bytes) (start + 2) [] 
 
 abbrev pub opened : ℕ → List ℕ → ℕ → Command → Content
 opened limit bytes start (Boards n) = body limit bytes start n
-opened limit bytes start (Link a b v) = refused cause.Command
-opened limit bytes start Pick = refused cause.Command
-opened limit bytes start End = refused cause.Command
+opened limit bytes start (Later i) = refused cause.Command
 opened limit bytes start (Not r) = refused r
 
 -- the recording that starts at a place of the file and ends with its 45

@@ -7,6 +7,7 @@ ghost use lib.ListN.{length};
 ghost use Rattle.recording.specs.Format.{flipped, commands, refusalIn, recordingAt, body, isEnded, stored, putAt};
 ghost use Rattle.recording.specs.Answers.{readingSays, partSays, partOf, readSays, readLeaves, readAtSays, readAtLeaves};
 use commands::Command;
+use commands::Item;
 use model::Board;
 use model::Refusal;
 
@@ -38,7 +39,17 @@ fn flip(links: &mut [u32], from: Board, to: Board)
     links[a] = links[a] ^ (1u32 << b);
 }
 
-// Checks the commands after the first, up to the 45.
+// Why a command ends the reading: the cause that refused it, or that it may not stand where it does.
+fn refusal_in(command: Command) -> Refusal
+    ensures { λ r. ⌜ r ≡ refusalIn command ⌝ }
+{
+    match command {
+        Command::Not(r) => r,
+        _ => Refusal::Command,
+    }
+}
+
+// Checks the commands after the first, up to the 45. A command that cannot be taken apart ends the reading with its number.
 fn scan(bytes: &[u8], start: usize, n: usize, limit: usize, links: &mut [u32]) -> Part
     requires { ⌜ (n ≡ length (now links)) × (n ≤ 32) ⌝ }
     ensures { λ r. ⌜ r ≡ partOf (commands (now (bytes .entry)) n limit (length (now (bytes .entry))) start [] (now (links .entry))) ⌝ }
@@ -46,27 +57,25 @@ fn scan(bytes: &[u8], start: usize, n: usize, limit: usize, links: &mut [u32]) -
     let mut at = start;
     let mut picks: usize = 0;
     while at < bytes.len() {
-        match commands::next(bytes, at, n, limit, picks, links) {
-            Command::Link(from, to, _) => {
+        let command = commands::next(bytes, at, n, limit, picks, links);
+        let Command::Later(item) = command else {
+            return Part::Refused(refusal_in(command));
+        };
+        match item {
+            Item::Link(from, to, _) => {
                 flip(links, from, to);
                 at += 3;
             }
-            Command::Pick => {
+            Item::Pick => {
                 picks += 1;
                 at += 1;
             }
-            Command::End => {
+            Item::End => {
                 return Part::Ended {
                     boards: n,
                     picks: picks,
                     end: at + 1,
                 };
-            }
-            Command::Boards(_) => {
-                return Part::Refused(Refusal::Command);
-            }
-            Command::Not(r) => {
-                return Part::Refused(r);
             }
         }
     }
@@ -82,7 +91,7 @@ fn put(out: &mut [u32], before: usize, n: usize, links: &[u32])
     lists::copy_over(&mut out[at..at + n], links, n);
 }
 
-// Writes the picks of a recording that a check has found whole.
+// Writes the picks of a recording that a check has found whole: no command of it is refused.
 fn store(bytes: &[u8], start: usize, n: usize, limit: usize, links: &mut [u32], out: &mut [u32])
     requires { ⌜ (n ≡ length (now links)) × (n ≤ 32) × (limit ≤ 4096) × (limit * n ≤ length (now out)) × (isEnded (commands (now bytes) n limit (length (now bytes)) start [] (now links)) ≡ true) ⌝ }
     ensures { λ _. ⌜ now (out .exit) ≡ stored (commands (now (bytes .entry)) n limit (length (now (bytes .entry))) start [] (now (links .entry))) (now (out .entry)) ⌝ }
@@ -90,17 +99,20 @@ fn store(bytes: &[u8], start: usize, n: usize, limit: usize, links: &mut [u32], 
     let mut at = start;
     let mut picks: usize = 0;
     while at < bytes.len() {
-        match commands::next(bytes, at, n, limit, picks, links) {
-            Command::Link(from, to, _) => {
+        let Command::Later(item) = commands::next(bytes, at, n, limit, picks, links) else {
+            return;
+        };
+        match item {
+            Item::Link(from, to, _) => {
                 flip(links, from, to);
                 at += 3;
             }
-            Command::Pick => {
+            Item::Pick => {
                 put(out, picks, n, links);
                 picks += 1;
                 at += 1;
             }
-            _ => {
+            Item::End => {
                 return;
             }
         }
@@ -108,16 +120,6 @@ fn store(bytes: &[u8], start: usize, n: usize, limit: usize, links: &mut [u32], 
 }
 
 // ---- the calls
-
-// The refusal that stands for a command.
-fn refusal_in(command: Command) -> Refusal
-    ensures { λ r. ⌜ r ≡ refusalIn command ⌝ }
-{
-    match command {
-        Command::Not(r) => r,
-        _ => Refusal::Command,
-    }
-}
 
 // Checks the recording that starts at a place, up to its 45.
 fn examine(bytes: &[u8], start: usize, limit: usize, room: usize) -> Part

@@ -1,4 +1,5 @@
--- `commands::next` meets its contract. `admit-other` answers the `_` arm.
+-- `commands::next` meets its contract. `admit-other` answers the other case of the `let .. else`.
+-- In each answer m is the place behind the `let .. else`, and i the arm of a link.
 -- Assumes nothing.
 use mathlib.Core.Path.{sym, _∙_}
 use borrow.Author.Tests.{le-leb, lt-leb}
@@ -16,52 +17,63 @@ command-at-requires c κs = search needs
 enum-known-command : tie.Need-enum-known-command
 enum-known-command c = search needs
 
+returns : tie.Need-returns
+unfolding nextOf
+returns c = simp (sym (c .before .command-at .ensures)) (sym (admit-other _ _ _ _ _ (c .match .keys2)))
+
+enum-known-item : tie.Need-enum-known-item
+enum-known-item c = search needs
+
 no-link-requires : tie.Need-no-link-requires
 no-link-requires c κs = search needs
 
-returns : tie.Need-returns
-unfolding nextOf refuse
-returns c = simp (sym (c .before .before .before .before .before .command-at .ensures) ∙ c .before .before .before .command .given .1, sym (c .before .no-link .ensures) ∙ c .if1 .taken)
-
-is-unchanged-requires : tie.Need-is-unchanged-requires
-is-unchanged-requires c κs =
-    let c8 = c .before .before .before .before .before .before .before .before in
-    in-links _ _ _ _ (sym (c .before .no-link .ensures) ∙ c .if1 .left) (c8 .pre .0) (c8 .pre .1)
-
 returns-2 : tie.Need-returns-2
 unfolding nextOf refuse
-returns-2 c =
-    simp (
-      sym (c .before .before .before .before .before .before .before .command-at .ensures) ∙ c .before .before .before .before .before .command .given .1,
-      sym
-          (c .before .before .before .no-link .ensures) ∙ c .before .before .if1 .left,
-      sym (c .before .is-unchanged .ensures) ∙ c .if2 .taken,
-    )
+returns-2 c = let i = c .before .before .before in
+    let m = i .before .before .before in
+    simp (sym (m .before .before .command-at .ensures) ∙ m .command .given .1, i .item .given .1, sym (c .before .no-link .ensures) ∙ c .if1 .taken)
+
+is-unchanged-requires : tie.Need-is-unchanged-requires
+is-unchanged-requires c κs = let m = c .before .before .before .before .before .before in
+    let pre = m .before .before .before .before .before .pre in
+    in-links _ _ _ _ (sym (c .before .no-link .ensures) ∙ c .if1 .left) (pre .0) (pre .1)
+
+returns-3 : tie.Need-returns-3
+unfolding nextOf refuse
+returns-3 c = let a = c .before .before in
+    let i = a .before .before .before in
+    let m = i .before .before .before in
+    let e = sym (m .before .before .command-at .ensures) ∙ m .command .given .1 in
+    simp (e, i .item .given .1, sym (a .before .no-link .ensures) ∙ a .if1 .left, sym (c .before .is-unchanged .ensures) ∙ c .if2 .taken)
 
 enum-told : tie.Need-enum-told
 enum-told c = search needs
 
-returns-3 : tie.Need-returns-3
-unfolding nextOf refuse
-returns-3 c = simp (sym (c .before .before .before .command-at .ensures) ∙ c .before .enum-told .given .1, le-leb _ _ (c .if3 .taken))
-
 returns-4 : tie.Need-returns-4
 unfolding nextOf refuse
-returns-4 c =
-    simp (
-      sym (c .before .before .before .before .before .before .before .command-at .ensures) ∙ c .before .before .before .before .before .command .given .1,
-      sym
-          (c .before .before .before .no-link .ensures) ∙ c .before .before .if1 .left,
-      sym (c .before .is-unchanged .ensures) ∙ c .if2 .left,
-    )
+returns-4 c = let m = c .before .before .before .before in
+    simp (sym (m .before .before .command-at .ensures) ∙ m .command .given .1, c .before .enum-told .given .1, le-leb _ _ (c .if3 .taken))
+
+enum-told-2 : tie.Need-enum-told-2
+enum-told-2 c = search needs
 
 returns-5 : tie.Need-returns-5
 unfolding nextOf refuse
-returns-5 c = c .before .enum-told .given .1 ∙ simp (sym (c .before .before .before .command-at .ensures) ∙ c .before .enum-told .given .1, lt-leb _ _ (c .if3 .left))
+returns-5 c = let a = c .before .before in
+    let i = a .before .before .before in
+    let m = i .before .before .before in
+    let e = sym (m .before .before .command-at .ensures) ∙ m .command .given .1 in
+    simp (e, i .item .given .1, sym (a .before .no-link .ensures) ∙ a .if1 .left, sym (c .before .is-unchanged .ensures) ∙ c .if2 .left)
 
 returns-6 : tie.Need-returns-6
 unfolding nextOf refuse
-returns-6 c = simp (sym (c .before .command-at .ensures)) (sym (admit-other _ _ _ _ _ (c .match .keys3)))
+returns-6 c = let m = c .before .before .before .before in
+    simp (sym (m .before .before .command-at .ensures) ∙ m .command .given .1, c .before .enum-told .given .1, lt-leb _ _ (c .if3 .left))
+
+returns-7 : tie.Need-returns-7
+unfolding nextOf
+returns-7 c = let m = c .before .before .before in
+    simp (sym (m .before .before .command-at .ensures) ∙ m .command .given .1, c .enum-told2 .given .1)
 
 pub next-spec : {M : Type 1} → statement M
 next-spec =
@@ -69,12 +81,15 @@ next-spec =
     (tie.spec
     command-at-requires
     enum-known-command
-    no-link-requires
     returns
-    is-unchanged-requires
+    enum-known-item
+    no-link-requires
     returns-2
-    enum-told
+    is-unchanged-requires
     returns-3
+    enum-told
     returns-4
+    enum-told-2
     returns-5
-    returns-6)
+    returns-6
+    returns-7)
