@@ -14,7 +14,7 @@ use Rattle.commands.specs.declared.Command.the-variants.{Boards, Later, 
 use Rattle.commands.specs.declared.Item.the-variants.{Link, Pick, End}
 use Rattle.commands.specs.declared.Width.{Width}
 use Rattle.commands.specs.declared.Width.the-variants.{Known, Unknown}
-use Rattle.commands.specs.Commands.{refuse, widthOf, takenApart, commandAt, operandsIn}
+use Rattle.commands.specs.Commands.{refuse, widthOf, commandOf, misplaced, takenApart, commandAt, operandsIn}
 use Rattle.commands.proofs.Table.{width-law}
 use Rattle.model.specs.Recording.{link}
 use Rattle.commands.specs.Causes.{noLink, unchanged, boardsFit, headAt, admitted, next}
@@ -55,11 +55,14 @@ Taken (Boards n) = Unit {0}
 Taken (Later i) = Unit {0}
 Taken (Not r) = ⊥
 
--- what is not refused went past the cause
-past : (t : Bool) (r : Refusal) (x y : Command) → refuse t r x ≡ y → Taken y → (t ≡ false) × (x ≡ y)
+-- what is not refused went past the cause; `Q` holds of no refused command
+pub past-as : (Q : Command → Type 0) → ((r : Refusal) → Q (Not r) → ⊥) → (t : Bool) (r : Refusal) (x : Command) → Q (refuse t r x) → (t ≡ false) × Q x
 unfolding refuse
-past true r x y e h = absurd (subst Taken (sym e) h)
-past false r x y e h = (refl, e)
+past-as Q never true r x q = absurd (never r q)
+past-as Q never false r x q = (refl, q)
+
+past : (t : Bool) (r : Refusal) (x y : Command) → refuse t r x ≡ y → Taken y → (t ≡ false) × (x ≡ y)
+past t r x y e h = past-as (λ (z : Command). z ≡ y) (λ s i. subst Taken (sym i) h) t r x e
 
 pub record Linked (n : ℕ) (links : List ℕ) (a b : ℕ) (v : Bool) : Type 0 where
   pub able : noLink n a b ≡ false
@@ -94,20 +97,34 @@ admitted-pick n limit count links (Later End) e = absurd (no cc)
 admitted-pick n limit count links (Boards m) e = absurd (no cc)
 admitted-pick n limit count links (Not r) e = absurd (no cc)
 
--- a command that is taken apart has its operands within the file
-taken-inside : (first : Bool) (bytes : List ℕ) (at : ℕ) (x : Command) → commandAt first bytes at ≡ x → Taken x → at + 1 + operandsIn x ≤ length bytes
+-- a command that is taken apart: its byte is in the table and in its place, its operands are within the file
+pub record Stood (Q : Command → Type 0) (first : Bool) (bytes : List ℕ) (at : ℕ) : Type 0 where
+  pub operands : ℕ
+  pub width : widthOf (getD bytes at 0) ≡ Known operands
+  pub placed : misplaced first (getD bytes at 0) ≡ false
+  pub within : at + 1 + operands ≤ length bytes
+  pub says : Q (commandOf (getD bytes at 0) (getD bytes (at + 1) 0) (getD bytes (at + 2) 0))
+
+pub stood : (Q : Command → Type 0) → ((r : Refusal) → Q (Not r) → ⊥) → (first : Bool) (bytes : List ℕ) (at : ℕ) → Q (commandAt first bytes at)
+    → Stood Q first bytes at
 unfolding commandAt
-taken-inside first bytes at x e h =
-    let p = past _ _ _ _ e h in
-    let q = past _ _ _ _ (p .1) h in
-    by (widthOf (getD bytes at 0)) refl (q .1)
+stood Q never first bytes at q =
+    let p = past-as Q never _ _ _ q in
+    let s = past-as Q never _ _ _ (p .1) in
+    by (widthOf (getD bytes at 0)) refl (s .0) (s .1)
   where
-    by : (w : Width) → widthOf (getD bytes at 0) ≡ w → takenApart w bytes at ≡ x → at + 1 + operandsIn x ≤ length bytes
-    by (Known k) i j =
-        let r = past _ _ _ _ j h in
-        let o : operandsIn x ≡ k = ap operandsIn (sym (r .1)) ∙ width-law (getD bytes at 0) k (getD bytes (at + 1) 0) (getD bytes (at + 2) 0) i in
-        rw o (ltb-false _ _ (r .0))
-    by Unknown i j = absurd (subst Taken (sym j) h)
+    by : (w : Width) → widthOf (getD bytes at 0) ≡ w → misplaced first (getD bytes at 0) ≡ false → Q (takenApart w bytes at) → Stood Q first bytes at
+    by (Known k) i m j =
+        let r = past-as Q never _ _ _ j in
+        record { operands = k; width = i; placed = m; within = ltb-false _ _ (r .0); says = r .1 }
+    by Unknown i m j = absurd (never _ j)
+
+taken-inside : (first : Bool) (bytes : List ℕ) (at : ℕ) (x : Command) → commandAt first bytes at ≡ x → Taken x → at + 1 + operandsIn x ≤ length bytes
+taken-inside first bytes at x e h =
+    let s = stood (λ (z : Command). z ≡ x) (λ r i. subst Taken (sym i) h) first bytes at e in
+    let o : operandsIn x ≡ s .operands =
+    ap operandsIn (sym (s .says)) ∙ width-law (getD bytes at 0) (s .operands) (getD bytes (at + 1) 0) (getD bytes (at + 2) 0) (s .width) in
+    rw o (s .within)
 
 -- no later cause makes an end of another command
 admitted-end : (n limit count : ℕ) (links : List ℕ) (x : Command) → admitted n limit count links x ≡ Later End → x ≡ Later End
@@ -127,11 +144,13 @@ end-inside bytes n limit at count links e =
 
 -- what a first command that is taken says
 pub record Headed (limit room : ℕ) (bytes : List ℕ) (start n : ℕ) : Type 0 where
+  pub some : 1 ≤ limit
   pub few : limit ≤ 4096
   pub low : 2 ≤ n
   pub high : n ≤ 32
   pub room-for : limit * n ≤ room
   pub there : start + 2 ≤ length bytes
+  pub says : commandAt true bytes start ≡ Boards n
 
 boards-fit : (limit room : ℕ) (x : Command) (n : ℕ) → boardsFit limit room x ≡ Boards n → (x ≡ Boards n) × ((2 ≤ n) × ((n ≤ 32) × (limit * n ≤ room)))
 boards-fit limit room (Boards m) n e =
@@ -152,9 +171,11 @@ headed limit room bytes start n e =
     let f = boards-fit limit room _ n (q .1) in
     let t : start + 1 + 1 ≤ length bytes = taken-inside true bytes start (Boards n) (f .0) tt in
     record {
+      some = omega (arith, eqb-false limit 0 (p .0));
       few = ltb-false 4096 limit (q .0);
       low = f .1 .0;
       high = f .1 .1 .0;
       room-for = f .1 .1 .1;
       there = omega arith;
+      says = f .0;
     }

@@ -1,6 +1,6 @@
 -- The table of commands: a search from an index on ends at the entry there or goes on behind it; and the rule of the entries.
 -- Assumes nothing.
-use mathlib.Core.Path.{_≡_, refl, sym, ap, _∙_}
+use mathlib.Core.Path.{_≡_, refl, sym}
 use mathlib.Core.Bool.{Bool, true, false}
 use mathlib.Core.List.{List, [], _∷_}
 use Prim.Native.Nat.{ℕ, _+_, _<_, _≤_}
@@ -28,6 +28,23 @@ pub lookup-end : (ss : List Shape) (i b : ℕ) → length ss ≤ i → lookup (d
 unfolding lookup
 lookup-end ss i b h = rw (drop-of-length-le ss h)
 
+-- what holds of each entry holds of every byte that a search finds, with its operand count
+abbrev pub Every : (ℕ → ℕ → Type 0) → List Shape → Type 0
+Every P [] = Unit {0}
+Every P (s ∷ ss) = P (s .byte) (s .operands) × Every P ss
+
+pub by-shape : (P : ℕ → ℕ → Type 0) (ss : List Shape) → Every P ss → (b k : ℕ) → lookup ss b ≡ Known k → P b k
+unfolding lookup
+by-shape P [] a b k e = let z : _≡_ {A = ℕ} 0 1 = cc in absurd (omega arith)
+by-shape P (s ∷ ss) a b k e = by (eqb (s .byte) b) refl e (by-shape P ss (a .1) b k)
+  where
+    by : (x : Bool) → eqb (s .byte) b ≡ x → known x (Known (s .operands)) (lookup ss b) ≡ Known k → (lookup ss b ≡ Known k → P b k) → P b k
+    by true q i more =
+        let f : s .byte ≡ b = eqb-true (s .byte) b q in
+        let o : s .operands ≡ k = cc in
+        rw (sym f, sym o) (a .0)
+    by false q i more = more i
+
 -- ---- the rule
 
 -- one test, computed over all entries
@@ -35,27 +52,16 @@ pub table-rule : (x y : ℕ) → T (everyShape (ruled x y) shapes)
 unfolding ruled widthOf lookup commandOf
 table-rule x y = tt
 
--- an entry that a search finds passes a test that all entries pass
-pub record Entry (f : Shape → Bool) (b k : ℕ) : Type 0 where
-  pub shape : Shape
-  pub byte-is : shape .byte ≡ b
-  pub operands-is : shape .operands ≡ k
-  pub passes : T (f shape)
-
-entry : (f : Shape → Bool) (ss : List Shape) (b k : ℕ) → T (everyShape f ss) → lookup ss b ≡ Known k → Entry f b k
-unfolding lookup
-entry f [] b k t e = let z : _≡_ {A = ℕ} 0 1 = cc in absurd (omega arith)
-entry f (s ∷ ss) b k t e = by (eqb (s .byte) b) refl e (entry f ss b k (and-r (f s) (everyShape f ss) t))
-  where
-    by : (x : Bool) → eqb (s .byte) b ≡ x → known x (Known (s .operands)) (lookup ss b) ≡ Known k → (lookup ss b ≡ Known k → Entry f b k) → Entry f b k
-    by true q i more = let o : s .operands ≡ k = cc in record { shape = s; byte-is = eqb-true (s .byte) b q; operands-is = o; passes = and-l (f s) (everyShape f ss) t }
-    by false q i more = more i
+each-ruled : (x y : ℕ) (ss : List Shape) → T (everyShape (ruled x y) ss) → Every (λ b k. operandsIn (commandOf b x y) ≡ k) ss
+unfolding ruled
+each-ruled x y [] t = tt
+each-ruled x y (s ∷ ss) t =
+    let w = isWidth (widthOf (s .byte)) (s .operands) in
+    let c = operandsIn (commandOf (s .byte) x y) in
+    let r = everyShape (ruled x y) ss in
+    (eqb→eq c (s .operands) (and-r w (eqb c (s .operands)) (and-l (ruled x y s) r t)), each-ruled x y ss (and-r (ruled x y s) r t))
 
 -- a known command byte has as many operands as its command
 pub width-law : (b k x y : ℕ) → widthOf b ≡ Known k → operandsIn (commandOf b x y) ≡ k
-unfolding widthOf ruled
-width-law b k x y e =
-    let s = entry (ruled x y) shapes b k (table-rule x y) e in
-    let o = s .shape .operands in
-    let c = operandsIn (commandOf (s .shape .byte) x y) in
-    ap (λ (i : ℕ). operandsIn (commandOf i x y)) (sym (s .byte-is)) ∙ eqb→eq c o (and-r (isWidth (widthOf (s .shape .byte)) o) (eqb c o) (s .passes)) ∙ s .operands-is
+unfolding widthOf
+width-law b k x y e = by-shape (λ i o. operandsIn (commandOf i x y) ≡ o) shapes (each-ruled x y shapes (table-rule x y)) b k e

@@ -1,9 +1,9 @@
 -- A link flipped changes its own bit and no other: a pick stays one without a forbidden bit. Assumes nothing.
-use mathlib.Core.Path.{_≡_, refl, sym, ap, _∙_}
-use mathlib.Core.Bool.{Bool, true, false}
+use mathlib.Core.Path.{_≡_, refl, sym, ap, _∙_, subst}
+use mathlib.Core.Bool.{Bool, true, false, not, _&&_}
 use mathlib.Core.List.{List}
-use Prim.Native.Nat.{ℕ, suc, _+_, _-_, _/_, _%_, _^_, _<_}
-use native.Mathlib.Nat.{div-eq-of-lt, mul-mod-left, pow-suc}
+use Prim.Native.Nat.{ℕ, zero, suc, _+_, _-_, _/_, _%_, _^_, _<_}
+use native.Mathlib.Nat.{div-eq-of-lt, mul-mod-left, pow-suc, mod-lt, zero-lt-suc, one-mul}
 use native.Mathlib.Omega.{arith}
 use borrow.Author.Tests.{ltb-true, ltb-false, eqb-true, eqb-false}
 use lib.Bits.{bitXor, xor-shr, xor-mod, xor-zero-r, xor-lt}
@@ -14,6 +14,7 @@ use lib.Seq.{getD-set-same, getD-set-other}
 use Rattle.model.specs.Recording.{bit, link, Clean}
 use Rattle.model.proofs.Logic.{tr}
 use Rattle.recording.specs.Format.{flipped}
+use Rattle.recording.specs.Grammar.{choose}
 use Rattle.commands.proofs.Admit.{Linkable}
 
 -- 2 ^ t has bit t only
@@ -36,6 +37,17 @@ xor-other w t b h =
     let e : bitXor w (2 ^ t) / 2 ^ b % 2 ≡ w / 2 ^ b % 2 =
     rw (xor-shr w (2 ^ t) b, xor-mod (w / 2 ^ b) (2 ^ t / 2 ^ b) 1, pow-bit t b h) (xor-zero-r (w / 2 ^ b % 2)) in
     ap (λ (x : ℕ). eqb x 1) e
+
+xor-same : (w t : ℕ) → bit (bitXor w (2 ^ t)) t ≡ not (bit w t)
+unfolding bit
+xor-same w t =
+    let o : 2 ^ t / 2 ^ t ≡ 1 = ap (λ (x : ℕ). x / 2 ^ t) (sym (one-mul (2 ^ t))) ∙ shl-shr 1 t in
+    let e : bitXor w (2 ^ t) / 2 ^ t % 2 ≡ bitXor (w / 2 ^ t % 2) 1 = rw (xor-shr w (2 ^ t) t, xor-mod (w / 2 ^ t) (2 ^ t / 2 ^ t) 1, o) in
+    ap (λ (x : ℕ). eqb x 1) e ∙ digit (w / 2 ^ t % 2) (mod-lt (w / 2 ^ t) (zero-lt-suc 1))
+  where
+    digit : (d : ℕ) → d < 2 → eqb (bitXor d 1) 1 ≡ not (eqb d 1)
+    digit zero h = refl
+    digit (suc d) h = let z : suc d ≡ 1 = omega arith in subst (λ (y : ℕ). eqb (bitXor y 1) 1 ≡ not (eqb y 1)) (sym z) refl
 
 -- word a of the links: the changed one, or as it was
 module _ (links : List ℕ) (f t a : ℕ) where
@@ -72,3 +84,20 @@ clean-flip n links f t c l =
         let q : a ≡ t → ⊥ = λ z. l .apart (sym k ∙ z) in
         c .loopless a (tr (ap (λ (w : ℕ). bit w a) (flip-same links f t a inside k) ∙ xor-other (getD links f 0) t a q ∙ ap (λ (i : ℕ). bit (getD links i 0) a) (sym k)) m)
     own a m false e = c .loopless a (tr (ap (λ (w : ℕ). bit w a) (flip-other links f t a (eqb-false a f e))) m)
+
+-- each link of the links with one flipped
+pub link-flipped : (links : List ℕ) (f t : ℕ) → f < length links → (u v : ℕ)
+    → link (flipped links f t) u v ≡ choose (eqb f u && eqb t v) (not (link links f t)) (link links u v)
+unfolding link
+link-flipped links f t h u v = by (eqb f u) refl (eqb t v) refl
+  where
+    by : (x : Bool) → eqb f u ≡ x → (y : Bool) → eqb t v ≡ y
+        → bit (getD (flipped links f t) u 0) v ≡ choose (x && y) (not (bit (getD links f 0) t)) (bit (getD links u 0) v)
+    by true e true q =
+        let k = eqb-true f u e in
+        let l = eqb-true t v q in
+        rw (sym k, sym l, flip-same links f t f h refl) (xor-same (getD links f 0) t)
+    by true e false q =
+        let k = eqb-true f u e in
+        rw (sym k, flip-same links f t f h refl) (xor-other (getD links f 0) t v (λ z. eqb-false t v q (sym z)))
+    by false e y q = rw (flip-other links f t u (λ z. eqb-false f u e (sym z)))

@@ -84,7 +84,7 @@ module _ {limit : ℕ} {bytes : List ℕ} {start n : ℕ} {picks : List (List �
 
 -- ---- `read_at`
 
-number-positive : (r : Refusal) → number r ≡ 0 → ⊥
+pub number-positive : (r : Refusal) → number r ≡ 0 → ⊥
 number-positive r e = tr (number-some r) (eq-refl e)
 
 module _ (limit : ℕ) (bytes : List ℕ) (start : ℕ) (out : List ℕ) where
@@ -135,7 +135,7 @@ by-end : (t : Bool) (n : ℕ) (ps : List (List ℕ)) (e m : ℕ) (qs : List (Lis
 by-end true n ps e m qs f q = absurd (no cc)
 by-end false n ps e m qs f q = (refl, q)
 
-is-alone : (bytes : List ℕ) (o : Content) (n : ℕ) (ps : List (List ℕ)) (e : ℕ) → alone bytes o ≡ ended n ps e → (o ≡ ended n ps e) × (length bytes ≤ e)
+pub is-alone : (bytes : List ℕ) (o : Content) (n : ℕ) (ps : List (List ℕ)) (e : ℕ) → alone bytes o ≡ ended n ps e → (o ≡ ended n ps e) × (length bytes ≤ e)
 is-alone bytes (ended m qs f) n ps e q =
     let p = by-end (ltb f (length bytes)) m qs f n ps e q in
     let i = p .1 in

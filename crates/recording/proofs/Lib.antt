@@ -8,3 +8,6 @@ pub mod Along
 pub mod Written
 pub mod Bits
 pub mod Sound
+pub mod Turn
+pub mod State
+pub mod Grammar

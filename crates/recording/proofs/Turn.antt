@@ -1,0 +1,168 @@
+-- One turn of the reader, and the entry that stands there: what the bytes make of the turn, and what the turn tells of the bytes. Only here do
+-- the proofs about the grammar look at a command. Assumes nothing.
+use mathlib.Core.Path.{_≡_, refl, sym, ap, ap₂, _∙_}
+use mathlib.Core.Bool.{Bool, true, false, not, true≢false}
+use mathlib.Core.List.{List, [], _∷_, _++_}
+use Prim.Native.Nat.{ℕ, suc, _+_, _*_, _≤_, _<_}
+use native.Mathlib.Omega.{arith}
+use borrow.Author.Tests.{eqb-true, leb-false, not-false, ne-eqb, lt-leb, le-ltb}
+use lib.Dec.{eqb}
+use lib.ListN.{length, getD, take, drop, length-drop, take-append-drop}
+use lib.Seq.{length-take-le, drop-cons}
+use Rattle.model.specs.Recording.{link}
+use Rattle.model.specs.declared.Refusal.{Refusal}
+use Rattle.commands.specs.declared.Width.the-variants.{Known}
+use Rattle.commands.specs.declared.Command.{Command}
+use Rattle.commands.specs.declared.Command.the-variants.{Boards, Link}
+use Rattle.commands.specs.Commands.{shapes, lookup, widthOf, refuse, commandOf, misplaced, commandAt}
+use Rattle.commands.specs.Causes.{noLink, unchanged, headAt, admitted, next}
+use Rattle.commands.proofs.Admit.{no, Linkable, linkable, past-as, stood, Headed}
+use Rattle.commands.proofs.Table.{Every, by-shape}
+use Rattle.commands.proofs.Inverse.{command-here}
+use Rattle.recording.specs.Format.{Content, ended, refused, flipped, follow, commands, body, recordingAt}
+use Rattle.recording.specs.Grammar.{Entry, sets, pick, code, spell}
+
+-- ---- what an entry asks of the reader's state, and makes of it
+
+abbrev pub May : ℕ → ℕ → ℕ → List ℕ → Entry → Type 0
+May n limit count links (sets x a b) = Linkable n a b × (link links a b ≡ not x)
+May n limit count links pick = count < limit
+
+abbrev pub after : List ℕ → Entry → List ℕ
+after links (sets x a b) = flipped links a b
+after links pick = links
+
+abbrev pub taking : List (List ℕ) → List ℕ → Entry → List (List ℕ)
+taking picks links (sets x a b) = picks
+taking picks links pick = picks ++ (links ∷ [])
+
+-- ---- forwards: the turn at bytes that are known
+
+able : (n a b : ℕ) → Linkable n a b → noLink n a b ≡ false
+able n a b l = simp (ne-eqb a b (l .apart), lt-leb n a (l .from), lt-leb n b (l .to))
+
+changes : (x y : Bool) → y ≡ not x → unchanged x y ≡ false
+changes true y e = e
+changes false y e = ap not e
+
+module _ (bytes : List ℕ) (at c : ℕ) (rest : List ℕ) (e : drop at bytes ≡ c ∷ rest) where
+  -- the command that is taken apart there
+  here : (first : Bool) (k : ℕ) → misplaced first c ≡ false → widthOf c ≡ Known k → k ≤ length rest
+      → commandAt first bytes at ≡ commandOf c (getD rest 0 0) (getD rest 1 0)
+  here first k m w h =
+      let l : length (drop at bytes) ≡ suc (length rest) = ap length e in
+      let whole : bytes ≡ take at bytes ++ (c ∷ rest) = sym (take-append-drop at bytes) ∙ ap (λ (r : List ℕ). take at bytes ++ r) e in
+      let place : at ≡ length (take at bytes) = sym (length-take-le at bytes (omega (arith, length-drop at bytes))) in
+      ap₂ (commandAt first) whole place ∙ command-here first (take at bytes) rest c k m w h
+
+module _ (bytes : List ℕ) (n limit turns at : ℕ) (picks : List (List ℕ)) (links : List ℕ) where
+  pub entry-turn : (x : Entry) (rest : List ℕ) → drop at bytes ≡ spell x ++ rest → May n limit (length picks) links x
+      → commands bytes n limit (suc turns) at picks links ≡ commands bytes n limit turns (at + length (spell x)) (taking picks links x) (after links x)
+  unfolding commands next refuse commandOf widthOf lookup
+  entry-turn (sets true a b) rest e m =
+      simp (here bytes at 0x4F (a ∷ b ∷ rest) e false 2 refl refl (omega arith), able n a b (m .0), changes true (link links a b) (m .1))
+  entry-turn (sets false a b) rest e m =
+      simp (here bytes at 0x53 (a ∷ b ∷ rest) e false 2 refl refl (omega arith), able n a b (m .0), changes false (link links a b) (m .1))
+  entry-turn pick rest e m = simp (here bytes at 0x50 rest e false 0 refl refl (omega arith), lt-leb limit (length picks) m)
+
+  pub end-turn : (rest : List ℕ) → drop at bytes ≡ 0x45 ∷ rest → commands bytes n limit (suc turns) at picks links ≡ ended n picks (at + 1)
+  unfolding commands next refuse commandOf widthOf lookup
+  end-turn rest e = simp (here bytes at 0x45 rest e false 0 refl refl (omega arith))
+
+-- the first command, where the call and n pass
+pub head-turn : (limit room : ℕ) (bytes : List ℕ) (n : ℕ) (rest : List ℕ) → bytes ≡ 0x42 ∷ n ∷ rest → 1 ≤ limit → limit ≤ 4096 → 2 ≤ n → n ≤ 32
+    → limit * n ≤ room → recordingAt limit room bytes 0 ≡ body limit bytes 0 n
+unfolding recordingAt headAt refuse commandOf widthOf lookup
+head-turn limit room bytes n rest e a b c d r =
+    simp (
+      ne-eqb limit 0 (λ z. omega arith),
+      le-ltb 4096 limit b,
+      here bytes 0 0x42 (n ∷ rest) e true 1 refl refl (omega arith),
+      le-ltb n 2 c,
+      le-ltb 32 n d,
+      le-ltb room (limit * n) r,
+    )
+
+-- ---- backwards: the bytes at a turn that goes on
+
+front : (bytes : List ℕ) (i j : ℕ) → i < length bytes → suc i ≡ j → drop i bytes ≡ getD bytes i 0 ∷ drop j bytes
+front bytes i j h e = rw (sym e) (drop-cons bytes i 0 h)
+
+-- the reading that goes on from a place, with the picks and the open links
+abbrev pub More : Type 0
+More = ℕ → List (List ℕ) → List ℕ → Content
+
+-- where a turn goes that is not refused: at an entry it goes on, at the 45 it ends
+pub data Turned (bytes : List ℕ) (n limit at : ℕ) (picks : List (List ℕ)) (links : List ℕ) (more : More) (o : Content) : Type 0 where
+  at-entry : (x : Entry) → drop at bytes ≡ spell x ++ drop (at + length (spell x)) bytes → May n limit (length picks) links x
+      → more (at + length (spell x)) (taking picks links x) (after links x) ≡ o → Turned bytes n limit at picks links more o
+  at-end : drop at bytes ≡ 0x45 ∷ drop (at + 1) bytes → ended n picks (at + 1) ≡ o → Turned bytes n limit at picks links more o
+
+module _ (bytes : List ℕ) (n limit at : ℕ) (picks : List (List ℕ)) (links : List ℕ) (more : More) (m : ℕ) (ps : List (List ℕ)) (end : ℕ) where
+  abbrev Goes : Command → Type 0
+  Goes x = follow more n at picks links x ≡ ended m ps end
+
+  abbrev Admitted : Command → Type 0
+  Admitted x = Goes (admitted n limit (length picks) links x)
+
+  abbrev Here : Type 0
+  Here = Turned bytes n limit at picks links more (ended m ps end)
+
+  never : (r : Refusal) → refused r ≡ ended m ps end → ⊥
+  never r q = no cc
+
+  -- what is to be shown of a command byte at the place, with k operands
+  abbrev Byte : ℕ → ℕ → Type 0
+  Byte b k = b ≡ getD bytes at 0 → misplaced false b ≡ false → at + 1 + k ≤ length bytes
+      → Admitted (commandOf b (getD bytes (at + 1) 0) (getD bytes (at + 2) 0)) → Here
+
+  by-link : (x : Bool) → code x ≡ getD bytes at 0 → at + 1 + 2 ≤ length bytes
+      → Admitted (Link (record { 0 = getD bytes (at + 1) 0 }) (record { 0 = getD bytes (at + 2) 0 }) x) → Here
+  by-link x e h q =
+      let a = getD bytes (at + 1) 0 in
+      let b = getD bytes (at + 2) 0 in
+      let p = past-as Goes never _ _ _ q in
+      let r = past-as Goes never _ _ _ (p .1) in
+      let d : drop at bytes ≡ code x ∷ a ∷ b ∷ drop (at + 3) bytes =
+      rw (
+        e,
+        front bytes at (at + 1) (omega arith) (omega arith),
+        front bytes (at + 1) (at + 2) (omega arith) (omega arith),
+        front bytes (at + 2) (at + 3) (omega arith) (omega arith),
+      ) in
+      at-entry (sets x a b) d (linkable n a b (p .0), changed x (link links a b) (r .0)) (r .1)
+    where
+      changed : (x y : Bool) → unchanged x y ≡ false → y ≡ not x
+      changed true y e = e
+      changed false y e = not-false y e
+
+  by-pick : Byte 0x50 0
+  unfolding commandOf
+  by-pick e g h q =
+      let p = past-as Goes never _ _ _ q in
+      at-entry pick (rw e (front bytes at (at + 1) (omega arith) (omega arith))) (leb-false limit (length picks) (p .0)) (p .1)
+
+  by-end : Byte 0x45 0
+  unfolding commandOf
+  by-end e g h q = at-end (rw e (front bytes at (at + 1) (omega arith) (omega arith))) q
+
+  each-byte : Every Byte shapes
+  unfolding commandOf
+  each-byte = ((λ e g. absurd (true≢false g)), ((λ e g h q. by-link true e h q), ((λ e g h q. by-link false e h q), (by-pick, (by-end, tt)))))
+
+  pub turned : Goes (next bytes n limit at (length picks) links) → Here
+  unfolding next widthOf
+  turned q =
+      let s = stood Admitted never false bytes at q in
+      by-shape Byte shapes each-byte (getD bytes at 0) (s .operands) (s .width) refl (s .placed) (s .within) (s .says)
+
+-- the first command
+pub head-back : {limit room : ℕ} {bytes : List ℕ} {n : ℕ} → Headed limit room bytes 0 n → bytes ≡ 0x42 ∷ n ∷ drop 2 bytes
+unfolding commandOf widthOf lookup
+head-back {bytes = bytes} {n = n} h =
+    let s = stood (λ (x : Command). x ≡ Boards n) (λ r e. no cc) true bytes 0 (h .says) in
+    let b : getD bytes 0 0 ≡ 0x42 = eqb-true (getD bytes 0 0) 0x42 (not-false (eqb (getD bytes 0 0) 0x42) (s .placed)) in
+    let c : commandOf 0x42 (getD bytes 1 0) (getD bytes 2 0) ≡ Boards n = rw b at (s .says) in
+    let x : getD bytes 1 0 ≡ n = cc in
+    let i = h .there in
+    front bytes 0 1 (omega arith) refl ∙ ap₂ _∷_ b (front bytes 1 2 (omega arith) refl ∙ ap (λ (y : ℕ). y ∷ drop 2 bytes) x)
