@@ -42,6 +42,17 @@ fn bounded(got: Outcome, measure: usize, m: usize) -> Outcome
     }
 }
 
+// What the second implementation answers of a whole run; 8 where there is no pick.
+fn naive_whole(words: &[u32], n: usize, m: usize, measure: usize) -> Outcome
+    requires { ⌜ (n ≤ 32) × (m ≤ 4096) ⌝ }
+{
+    if m == 0 {
+        return tallies::refused(8);
+    }
+    let x = naive_walk::whole(words, n, m, measure);
+    walking::naive_answer(words, n, m, measure, x)
+}
+
 fn run_whole(n: usize, measure: usize, words: &[u32], area: &mut [u32]) -> Outcome {
     let a = calls::whole(n, measure, words, area);
     tallies::answered(a)
@@ -61,7 +72,7 @@ fn whole_case(
 {
     let end = m * n;
     let got = run_whole(n, case.measure, &words[0..end], area);
-    let wanted = walking::length_as(got, words, n, m, case.measure, m);
+    let wanted = naive_whole(words, n, m, case.measure);
     tallies::compared(t, group, name, case, got, wanted)
 }
 

@@ -48,7 +48,7 @@ pub fn refused(number: usize) -> Outcome {
     }
 }
 
-// No call answers this: the case could not be run, for want of a file or of room.
+// No call answers this: the case could not be run, for want of a file, of room, or of one answer to hold it to.
 pub fn not_run() -> Outcome {
     refused(999)
 }

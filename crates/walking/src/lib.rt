@@ -1,29 +1,25 @@
-// A recording of m picks over n boards, pick by pick: after each one the length, against the second implementation.
+// A recording of m picks over n boards, pick by pick: after each one the length and both counts, against the second implementation.
 ghost use Prim.Native.Nat.{_*_, _≤_};
 ghost use lib.ListN.{length};
+ghost use Rattle.naive_walk.specs.Kept.{Kept};
 use calls::Opening;
 use calls::Taking;
+use naive_walk::Numbers;
 use place::Place;
 use tallies::Case;
 use tallies::Outcome;
 use tallies::Tally;
 
-// The length by the second implementation, with the counts of another outcome; 8 where there is no pick.
-pub fn length_as(
-    got: Outcome,
-    words: &[u32],
-    n: usize,
-    m: usize,
-    measure: usize,
-    k: usize,
-) -> Outcome
-    requires { ⌜ (n ≤ 32) × ((m ≤ 4096) × (k ≤ 4096)) ⌝ }
+// What the second implementation answers behind the picks of x: the length over all windows, with the counts of its walk on numbers. Where that walk
+// has another length there is no one answer.
+pub fn naive_answer(words: &[u32], n: usize, m: usize, measure: usize, x: Numbers) -> Outcome
+    requires { ⌜ (n ≤ 32) × ((m ≤ 4096) × Kept x) ⌝ }
 {
-    if k == 0 {
-        return tallies::refused(8);
+    let l = naive::length(words, n, m, measure, x.m);
+    if naive_walk::length(measure, x) != l {
+        return tallies::not_run();
     }
-    let l = naive::length(words, n, m, measure, k);
-    tallies::length(l, got.compositions, got.tests)
+    tallies::length(l, x.compositions, x.tests)
 }
 
 fn put_list(words: &[u32], n: usize, m: usize, list: &mut [u32])
@@ -61,7 +57,7 @@ pub fn measured(p: Place, k: usize) -> Outcome {
     tallies::answered(a)
 }
 
-// The case of a place that should have k picks.
+// The case of a place that should have the picks of x.
 fn place_case(
     group: &[u8],
     name: &[u8],
@@ -70,14 +66,14 @@ fn place_case(
     words: &[u32],
     n: usize,
     m: usize,
-    k: usize,
+    x: Numbers,
     t: Tally,
 ) -> Tally
-    requires { ⌜ (n ≤ 32) × ((m ≤ 4096) × (k ≤ 4096)) ⌝ }
+    requires { ⌜ (n ≤ 32) × ((m ≤ 4096) × Kept x) ⌝ }
 {
-    let got = measured(p, k);
-    let wanted = length_as(got, words, n, m, case.measure, k);
-    tallies::compared(t, group, name, tallies::at_part(case, k), got, wanted)
+    let got = measured(p, x.m);
+    let wanted = naive_answer(words, n, m, case.measure, x);
+    tallies::compared(t, group, name, tallies::at_part(case, x.m), got, wanted)
 }
 
 fn cases_from(
@@ -94,11 +90,13 @@ fn cases_from(
     requires { ⌜ (n ≤ 32) × ((m ≤ 4096) × (m * n ≤ length (now words))) ⌝ }
 {
     let mut q = p;
+    let mut x = naive_walk::first(0);
     let mut sum = t;
     for k in 0..m {
         let at = k * n;
         q = taken(q, area, &words[at..at + n]);
-        sum = place_case(group, name, case, q, words, n, m, k + 1, sum);
+        x = naive_walk::step(words, n, m, case.measure, x);
+        sum = place_case(group, name, case, q, words, n, m, x, sum);
     }
     sum
 }

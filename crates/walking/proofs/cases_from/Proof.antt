@@ -5,27 +5,32 @@ use lib.ListN.{length}
 use Prim.Native.Nat.{_-_}
 use native.Mathlib.Omega.{arith}
 use Rattle.checks.proofs.Lent.{lent-end}
+use Rattle.naive_walk.specs.Kept.{Kept}
 use borrow.Author.Needs.{needs}
 use Rattle.walking.proofs.cases_from.Statement.{statement}
 use Rattle.walking.proofs.cases_from.Tie as tie
 
 abbrev Inv-loop : tie.InvT-loop
-Inv-loop group name case words n m area₀ q₀ sum₀ k₀ area q sum k = length area ≡ length area₀
+Inv-loop group name case words n m area₀ q₀ x₀ sum₀ k₀ area q x sum k =
+    (length area ≡ length area₀) × (Kept x × (x .m ≡ k))
 
 abbrev μ-loop : tie.MeasureT-loop
-μ-loop group name case words n m area₀ q₀ sum₀ k₀ area q sum k = m - k
+μ-loop group name case words n m area₀ q₀ x₀ sum₀ k₀ area q x sum k = m - k
+
+first-requires : tie.Need-first-requires Inv-loop μ-loop
+first-requires c κs = search needs
 
 loop-holds : tie.Need-loop-holds Inv-loop μ-loop
 loop-holds c = search needs
 
 mul-at : tie.Need-mul-at Inv-loop μ-loop
-mul-at c = omega (arith, lent-end (c .before .before .before .before .before .before .args .n) (c .loop-test .taken))
+mul-at c = omega (arith, lent-end (c .before .before .before .before .before .before .before .args .n) (c .loop-test .taken))
 
 add-taken : tie.Need-add-taken Inv-loop μ-loop
-add-taken c = omega (arith, lent-end (c .before .before .before .before .before .before .before .args .n) (c .before .loop-test .taken))
+add-taken c = omega (arith, lent-end (c .before .before .before .before .before .before .before .before .args .n) (c .before .loop-test .taken))
 
 mul-taken : tie.Need-mul-taken Inv-loop μ-loop
-mul-taken c = omega (arith, lent-end (c .before .before .before .before .before .before .before .args .n) (c .before .loop-test .taken))
+mul-taken c = omega (arith, lent-end (c .before .before .before .before .before .before .before .before .args .n) (c .before .loop-test .taken))
 
 sub-taken : tie.Need-sub-taken Inv-loop μ-loop
 sub-taken c = search needs
@@ -34,16 +39,18 @@ part-taken-start : tie.Need-part-taken-start Inv-loop μ-loop
 part-taken-start c = search needs
 
 part-taken-end : tie.Need-part-taken-end Inv-loop μ-loop
-part-taken-end c = omega (arith, lent-end (c .before .before .before .before .before .before .before .args .n) (c .before .loop-test .taken))
+part-taken-end c = omega (arith, lent-end (c .before .before .before .before .before .before .before .before .args .n) (c .before .loop-test .taken))
 
 taken-requires : tie.Need-taken-requires Inv-loop μ-loop
 taken-requires c κs = search needs
 
-add-place-case : tie.Need-add-place-case Inv-loop μ-loop
-add-place-case c = search needs
+step-requires : tie.Need-step-requires Inv-loop μ-loop
+step-requires c κs = search needs
 
 place-case-requires : tie.Need-place-case-requires Inv-loop μ-loop
-place-case-requires c κs = search needs
+place-case-requires c κs =
+    let pre = c .before .before .before .before .before .before .before .before .before .before .before .before .before .pre in
+    (pre .0, (pre .1 .0, c .step .ensures .0))
 
 add-k : tie.Need-add-k Inv-loop μ-loop
 add-k c = search needs
@@ -66,6 +73,7 @@ cases-from-spec =
     (tie.spec
     Inv-loop
     μ-loop
+    first-requires
     loop-holds
     mul-at
     add-taken
@@ -74,7 +82,7 @@ cases-from-spec =
     part-taken-start
     part-taken-end
     taken-requires
-    add-place-case
+    step-requires
     place-case-requires
     add-k
     loop-less

@@ -1,0 +1,2 @@
+-- What the proofs of `naive_walk` share.
+pub mod Behind
