@@ -13,7 +13,8 @@ use Rattle.model.specs.Recording.{link}
 use Rattle.model.specs.declared.Refusal.{Refusal}
 use Rattle.commands.specs.declared.Width.the-variants.{Known}
 use Rattle.commands.specs.declared.Command.{Command}
-use Rattle.commands.specs.declared.Command.the-variants.{Boards, Link}
+use Rattle.commands.specs.declared.Command.the-variants.{Boards, Later}
+use Rattle.commands.specs.declared.Item.the-variants.{Link}
 use Rattle.commands.specs.Commands.{shapes, lookup, widthOf, refuse, commandOf, misplaced, commandAt}
 use Rattle.commands.specs.Causes.{noLink, unchanged, headAt, admitted, next}
 use Rattle.commands.proofs.Admit.{no, Linkable, linkable, past-as, stood, Headed}
@@ -117,7 +118,7 @@ module _ (bytes : List ℕ) (n limit at : ℕ) (picks : List (List ℕ)) (links 
       → Admitted (commandOf b (getD bytes (at + 1) 0) (getD bytes (at + 2) 0)) → Here
 
   by-link : (x : Bool) → code x ≡ getD bytes at 0 → at + 1 + 2 ≤ length bytes
-      → Admitted (Link (record { 0 = getD bytes (at + 1) 0 }) (record { 0 = getD bytes (at + 2) 0 }) x) → Here
+      → Admitted (Later (Link (record { 0 = getD bytes (at + 1) 0 }) (record { 0 = getD bytes (at + 2) 0 }) x)) → Here
   by-link x e h q =
       let a = getD bytes (at + 1) 0 in
       let b = getD bytes (at + 2) 0 in
