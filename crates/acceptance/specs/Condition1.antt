@@ -1,16 +1,18 @@
--- CONDITION 1 of the tender: for all input whatsoever each call answers by an answer of the listed kinds or by one of its numbered refusals, and a
--- refused call changes nothing. That each call meets these definitions for every input, and always returns, is its proved contract: none has a
--- `requires`. Assumes nothing.
+-- CONDITION 1 of the tender: for all input whatsoever each call answers by an answer of the listed kinds or by one of its numbered refusals; a
+-- refused call changes nothing; and no call refuses what its clauses let through. That each call meets these definitions for every input, and always
+-- returns, is its proved contract: none has a `requires`. Assumes nothing.
 use mathlib.Core.Path.{_≡_, refl, ap}
+use mathlib.Core.Logic.{_↔_}
 use mathlib.Core.Bool.{Bool, true, false, _&&_, not}
 use mathlib.Core.Option.{Option, none, some}
 use mathlib.Core.List.{List, [], _∷_, _++_}
-use Prim.Native.Nat.{ℕ, _+_, _/_, _%_}
+use Prim.Native.Nat.{ℕ, _+_, _/_, _%_, _≤_}
 use lib.Dec.{T, eqb, eqb→eq, leb, ltb}
 use lib.ListN.{length, drop}
 use Rattle.model.specs.declared.Refusal.{Refusal}
 use Rattle.model.specs.declared.Refusal.the-variants as cause
 use Rattle.model.specs.Refusals.{number}
+use Rattle.model.specs.Recording.{Recording}
 use Rattle.model.proofs.Logic.{F→≡}
 use Rattle.checks.specs.Checks.{clean, listed}
 use Rattle.checks.specs.Lent.{cleanPicks}
@@ -28,7 +30,13 @@ use Rattle.recording.specs.Format.{Content, ended, refused, readFile}
 use Rattle.recording.specs.Answers.{fileSays, readSays, readLeaves}
 use Rattle.recording.proofs.Causes.{ofFile, Caused, caused-file}
 use Rattle.recording.proofs.Laws.{refused-law}
+use Rattle.recording.specs.Grammar.{Reads, Told}
+use Rattle.recording.proofs.Grammar.{reads-exactly, reads-what-is-told}
+use Rattle.law.specs.Claim2.{opened, Taken}
+use Rattle.law.specs.Measures.{Fits}
 use Rattle.law.specs.Whole.{whole-refused as refused-run}
+use Rattle.numbers.specs.Checks.{MayOpen, MayTake, MayRun, MayTable}
+use Rattle.numbers.proofs.Taken.{open-exactly, pick-exactly as picks-exactly, whole-exactly as runs-exactly, table-exactly as tables-exactly, all-taken}
 
 -- x is one of the numbers listed
 pub data Among (x : ℕ) : List ℕ → Type 0 where
@@ -136,3 +144,34 @@ table-refused n w out f = ap (λ (b : Bool). either b (tableOf n w ++ drop n out
 
 pub reading-refused : (limit : ℕ) (bytes out : List ℕ) → (readSays limit bytes out .refusal ≡ 0 → ⊥) → readLeaves limit bytes out ≡ out
 reading-refused = refused-law
+
+-- ---- the checks say exactly when: no cause refuses a call where its clauses hold, by the meaning, and only there
+
+pub opening-exactly : (n measure limit : ℕ) (footprint a : List ℕ) → (openSays n measure limit footprint a .refusal ≡ 0) ↔ MayOpen n measure limit footprint a
+unfolding openSays
+opening-exactly = open-exactly
+
+-- from any place, also one that was altered
+pub pick-exactly : (p : Place) (a w : List ℕ) → (pickSays p a w .refusal ≡ 0) ↔ MayTake p a w
+pick-exactly = picks-exactly
+
+-- 9 is no cause: it comes after a run
+pub whole-exactly : (n measure : ℕ) (w a : List ℕ) → (wholeVerdict n measure w a ≡ 0) ↔ MayRun n measure w a
+whole-exactly n measure w a = runs-exactly n w measure a
+
+pub table-exactly : (n : ℕ) (w out : List ℕ) → (tableVerdict n w out ≡ 0) ↔ MayTable n w out
+table-exactly n w out = tables-exactly n w out
+
+-- the clauses of a file are a grammar (`recording/specs/Grammar`)
+pub reading-exactly : (limit : ℕ) (bytes out : List ℕ) → (readSays limit bytes out .refusal ≡ 0) ↔ Reads limit (length out) bytes
+reading-exactly = reads-exactly
+
+-- and what is read is what the grammar says: n, as many picks as there are 50s, and at each just the links that are open then
+pub reading-told : (limit : ℕ) (bytes out : List ℕ) (r : Reads limit (length out) bytes) → Told limit bytes out (r .n) (r .entries)
+reading-told = reads-what-is-told
+
+-- WHAT FITS IS TAKEN. From every opening that its clauses let through, every recording over n boards within the limit, and under measure 2 within the
+-- footprint, is taken pick after pick. So the theorems of condition 2 are about something.
+pub what-fits-is-taken : (n measure limit : ℕ) (footprint a : List ℕ) → MayOpen n measure limit footprint a
+    → (r : List (List ℕ)) → Recording n r → length r ≤ limit → Fits measure footprint r n → Taken (opened n measure limit footprint a) r
+what-fits-is-taken = all-taken

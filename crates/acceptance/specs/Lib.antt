@@ -1,6 +1,37 @@
--- The tender, stated once, to be read.
+-- The tender, stated once, to be read: each sentence of its conditions, and of 01's "Conditions for taking delivery", with the statement that says it.
+--
+-- CONDITION 1
+--   "Every answer is .. or one of the numbered refusals of document 01, for all input whatsoever": the contracts of the calls, none with a `requires`,
+--       are equations with definitions that are total; which numbers a call gives: Condition1.opening-numbers, pick-numbers, length-numbers, whole-numbers,
+--       table-numbers, reading-numbers; exactly when none of them comes: Condition1.opening-exactly, pick-exactly, whole-exactly, table-exactly, reading-exactly
+--   "and it always comes": every function is proved to end
+--   "A refused pick changes neither the place record nor the work area": Condition1.pick-refused; the other calls: opening-refused, whole-refused,
+--       table-refused, reading-refused
+-- CONDITION 2
+--   "After each pick taken .. each length equals the definition .. over all windows of the picks so far, .. and refusal 9 comes only when no such length
+--       exists": Condition2.pick-by-pick; that there are such picks: Condition1.what-fits-is-taken; picks, refused picks and length calls in any order:
+--       Condition2.in-any-order
+--   "and at the end of each whole-recording run": Condition2.whole-runs; in whatever area: Area.any-area
+--   "the table of reach marks exactly the pairs joined by a journey": Condition2.table, table-words
+--   "provided, pick by pick, that record and area come back as the last call left them": `after` of `law/specs/Claim2`, and the events of
+--       `numbers/specs/Events`, hand each call what the last one left; stopped and started at any pick: Condition2.stop-and-start
+--   "Compositions and tests are those of the walk in document 01": Condition2.counts-pick-by-pick, counts-whole
+--   "at most 4(m - 1) and 2m for m picks": Condition2.pick-by-pick-bounded, whole-runs-bounded
+-- CONDITION 3
+--   Condition3.condition-3, both ways
+--
+-- 01, CONDITIONS FOR TAKING DELIVERY
+--   1, a promise for each input on result, place and each lent word: the contracts, equations with `calls/specs/Calls`, `reach/specs/Tables` and
+--       `recording/specs/Answers`, of which everything here speaks; what each part of the area holds, and which words are written and read at all: Area
+--   2, versions that must be rejected: "right in its first window": Condition2.pick-by-pick, for every pick; "invented counts": Condition2.counts-pick-by-pick,
+--       counts-whole; "9 before a pick is looked at": Condition2.in-any-order (8 while none is taken) and whole-runs; "one fixed length or one fixed
+--       table": Condition2.pick-by-pick, whole-runs, table; "leaves its area idle": Area.each-part; "number 4 for everyone": Condition1.opening-exactly and
+--       the other four. docs/CLAIMS.md names the edit of each
+--   3, the ten cases: Cases.cases, cases-anywhere, cases-right
+--   4, facts shared by the measures with the composition as a parameter: `law/specs/Faithful`, `Ladders`, `MinWalk`, `MaxWalk`, over any kit
+--   5, condition 3 is there: Condition3.condition-3
 pub mod Condition1
 pub mod Condition2
 pub mod Condition3
 pub mod Cases
-pub mod Walk
+pub mod Area

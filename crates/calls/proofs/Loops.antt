@@ -3,7 +3,7 @@ use mathlib.Core.Path.{_≡_, refl, sym, ap, ap₂, _∙_, subst}
 use mathlib.Core.Bool.{Bool, true, false}
 use mathlib.Core.List.{List, _++_}
 use Prim.Native.Nat.{ℕ, zero, suc, _+_, _-_, _*_, _≤_, _<_, zero-le}
-use native.Mathlib.Nat.{le-refl, sub-zero, zero-mul, add-assoc}
+use native.Mathlib.Nat.{le-refl, add-assoc}
 use native.Mathlib.Numerals.{add-one}
 use native.Mathlib.Omega.{arith}
 use borrow.Author.Tests.{eq-eqb, ne-eqb}
@@ -13,7 +13,7 @@ use Rattle.lists.specs.Tab.{zeros}
 use Rattle.lists.proofs.Tab.{length-tab, length-zeros}
 use Rattle.links.specs.Tables.{union, eitherRow}
 use Rattle.checks.specs.Lent.{lentPick}
-use Rattle.checks.proofs.Lent.{lent-long}
+use Rattle.checks.proofs.Lent.{lent-long, first-lent, first-room}
 use Rattle.measures.specs.Kit.{Kit, kit, widthOf, either}
 use Rattle.area.specs.Parts.{putPart, zeroed}
 use Rattle.place.specs.declared.Place.{Place}
@@ -57,18 +57,11 @@ pub record United (n m : ℕ) (p : Place) (w : List ℕ) (k : ℕ) (q : Place) (
   pub long : n ≡ length t
   pub cost : q ≡ charged p (k - 1)
 
--- the part that code lends for pick 1
-pub first-part : (n : ℕ) (w : List ℕ) → take (n - 0) w ≡ lentPick n w 0
-unfolding lentPick
-first-part n w = ap₂ (λ (x y : ℕ). take x (drop y w)) (sub-zero n) (sym (zero-mul n))
-
-pub first-long : (n m : ℕ) (w : List ℕ) → 1 ≤ m → m * n ≤ length w → n ≡ length (take (n - 0) w)
-first-long n m w h room = sym (ap length (first-part n w) ∙ lent-long n 0 m w room h)
-
+-- pick 1
 pub united-start : (n m : ℕ) (p : Place) (w t : List ℕ) → 1 ≤ m → m * n ≤ length w → t ≡ take (n - 0) w → United n m p w 1 p t
 unfolding unions
 united-start n m p w t h room e =
-    record { low = le-refl 1; high = h; words = e ∙ first-part n w; long = first-long n m w h room ∙ sym (ap length e); cost = charged-none p }
+    record { low = le-refl 1; high = h; words = e ∙ first-lent n w; long = first-room n m w room h ∙ sym (ap length e); cost = charged-none p }
 
 module _ {n m : ℕ} {p : Place} {w : List ℕ} {k : ℕ} {q : Place} {t : List ℕ} (g : United n m p w k q t) where
   -- the charge does not wrap

@@ -75,7 +75,7 @@ record At (n measure limit : ℕ) (l : List ℕ) (st : State) : Type 0 where
 -- a pick that is clean, and under measure 2 has links of the footprint only
 record Good (n measure : ℕ) (l w : List ℕ) : Type 0 where
   clean : Clean n w
-  listed : measure ≡ 2 → Clean n l → (u v : ℕ) → T (link w u v) → T (link l u v)
+  listed : measure ≡ 2 → (u v : ℕ) → T (link w u v) → T (link l u v)
 
 abbrev AllGood : ℕ → ℕ → List ℕ → List (List ℕ) → Type 0
 AllGood n measure l [] = Unit {0}
@@ -89,7 +89,7 @@ module _ (n measure limit : ℕ) (l : List ℕ) where
       let c : Clean n w = clean-is n w k .0 (subst (λ (x : ℕ). T (clean x w)) (at .at-boards) (t .clean)) in
       record {
         clean = c;
-        listed = λ m kl. listed-is n l w kl c .0 (subst (λ (x : List ℕ). T (listed n x w)) (list m)
+        listed = λ m. listed-is n l w c .0 (subst (λ (x : List ℕ). T (listed n x w)) (list m)
             (subst (λ (x : ℕ). T (listed n (part n (st .area) (x + 3)) w)) (at .at-limit) (subst (λ (x : ℕ). T (listed x (part x (st .area) (st .place .limit + 3)) w)) (at .at-boards) (t .listed (at .at-measure ∙ m)))));
       }
     where
@@ -144,11 +144,11 @@ good-recording : (n measure : ℕ) (l : List ℕ) (ws : List (List ℕ)) → All
 good-recording n measure l [] g = tt
 good-recording n measure l (w ∷ ws) g = (g .0 .clean, good-recording n measure l ws (g .1))
 
-good-listed : (n measure : ℕ) (l : List ℕ) (ws : List (List ℕ)) → measure ≡ 2 → Clean n l → AllGood n measure l ws → Listed ws l
-good-listed n measure l [] m k g t u v a b o = absurd (omega arith)
-good-listed n measure l (w ∷ ws) m k g zero u v a b o = absurd (omega arith)
-good-listed n measure l (w ∷ ws) m k g (suc zero) u v a b o = g .0 .listed m k u v o
-good-listed n measure l (w ∷ ws) m k g (suc (suc t)) u v a b o = good-listed n measure l ws m k (g .1) (suc t) u v (omega arith) (le-of-suc-le-suc b) o
+good-listed : (n measure : ℕ) (l : List ℕ) (ws : List (List ℕ)) → measure ≡ 2 → AllGood n measure l ws → Listed ws l
+good-listed n measure l [] m g t u v a b o = absurd (omega arith)
+good-listed n measure l (w ∷ ws) m g zero u v a b o = absurd (omega arith)
+good-listed n measure l (w ∷ ws) m g (suc zero) u v a b o = g .0 .listed m u v o
+good-listed n measure l (w ∷ ws) m g (suc (suc t)) u v a b o = good-listed n measure l ws m (g .1) (suc t) u v (omega arith) (le-of-suc-le-suc b) o
 
 -- ---- THE THEOREM
 
@@ -166,7 +166,7 @@ length-reports p s h =
 fits-of : (measure n : ℕ) (l footprint : List ℕ) (ws : List (List ℕ)) → (measure ≡ 2 → l ≡ footprint) → (measure ≡ 2 → Clean n footprint) → AllGood n measure l ws → Fits measure footprint ws n
 fits-of zero n l footprint ws e k g = tt
 fits-of (suc zero) n l footprint ws e k g = tt
-fits-of (suc (suc zero)) n l footprint ws e k g = (k refl, subst (Listed ws) (e refl) (good-listed n 2 l ws refl (subst (Clean n) (sym (e refl)) (k refl)) g))
+fits-of (suc (suc zero)) n l footprint ws e k g = (k refl, subst (Listed ws) (e refl) (good-listed n 2 l ws refl g))
 fits-of (suc (suc (suc x))) n l footprint ws e k g = tt
 
 pub no-charge : (measure : ℕ) → Charge measure 0

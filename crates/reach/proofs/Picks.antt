@@ -3,11 +3,11 @@ use mathlib.Core.Path.{_≡_, refl, sym, ap, ap₂, _∙_}
 use mathlib.Core.Bool.{not}
 use mathlib.Core.List.{List, [], _∷_, _++_}
 use Prim.Native.Nat.{ℕ, suc, _+_, _-_, _*_, _/_, _%_, _≤_}
-use native.Mathlib.Nat.{sub-zero, div-add-mod', zero-mul}
+use native.Mathlib.Nat.{sub-zero, div-add-mod'}
 use native.Mathlib.Numerals.{add-one}
 use native.Mathlib.Omega.{arith}
 use lib.Dec.{T, eqb, eqb→eq, ltb}
-use lib.ListN.{length, take, drop}
+use lib.ListN.{length, take}
 use lib.Seq.{length-take-le}
 use Rattle.model.proofs.Logic.{tr, eq-refl}
 use Rattle.lists.specs.Tab.{padded}
@@ -17,7 +17,7 @@ use Rattle.links.specs.Composed.{composedFrom, composed, reach}
 use Rattle.checks.specs.Lent.{lentPick, lentPicks, cleanPicks}
 use Rattle.checks.proofs.Lent.{length-lent}
 use Rattle.place.specs.Places.{between}
-use Rattle.verdicts.proofs.Verdicts.{stop-out, between-says, holds-by, true-of, not-short}
+use Rattle.verdicts.proofs.Verdicts.{stop-out, stop-step, between-says, holds-by, true-of, not-short, passes, in-range, long-enough, whole-picks, some-picks}
 use Rattle.reach.specs.Tables.{tableVerdict}
 
 from-snoc : (n h i : ℕ) (t : List ℕ) (ps : List (List ℕ)) (p : List ℕ)
@@ -36,10 +36,6 @@ reach-snoc n h (q ∷ r) p l = from-snoc n h 2 (within n h q) r p
 pub reach-first : (n h : ℕ) (w : List ℕ) → reach n h (lentPicks n w 1) ≡ within n h (lentPick n w 0)
 unfolding reach composed composedFrom lentPicks
 reach-first n h w = refl
-
-pub first-lent : (n : ℕ) (w : List ℕ) → take (n - 0) w ≡ lentPick n w 0
-unfolding lentPick
-first-lent n w = ap₂ (λ (x y : ℕ). take x (drop y w)) (sub-zero n) (sym (zero-mul n))
 
 -- what a table that is written relies on
 pub record Tables (n m : ℕ) (w out : List ℕ) : Type 0 where
@@ -74,6 +70,17 @@ table-sound n w out e =
       room = not-short (length out) n (s5 .0);
       clean = true-of (cleanPicks n w m) (s6 .0);
     }
+
+-- the other way
+pub tables-verdict : (n : ℕ) (w out : List ℕ) → Tables n (length w / n) w out → tableVerdict n w out ≡ 0
+unfolding tableVerdict
+tables-verdict n w out o =
+    sym (stop-step 1 (in-range 2 n 32 (o .some-boards) (o .few))
+    (stop-step 10 (whole-picks (length w) n (o .words))
+    (stop-step 8 (some-picks (length w / n) (o .some-picks))
+    (stop-step 3 (long-enough 4096 (length w / n) (o .cap))
+    (stop-step 4 (long-enough (length out) n (o .room))
+    (stop-step 5 (passes (cleanPicks n w (length w / n)) (o .clean)) refl))))))
 
 -- the words of a copied table
 pub load-words : (n : ℕ) (w x : List ℕ) → n ≡ length w → x ≡ padded 32 w → take (n - 0) x ≡ w

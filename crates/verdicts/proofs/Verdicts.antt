@@ -5,9 +5,9 @@ use Prim.Native.Nat.{ℕ, _+_, _-_, _*_, _/_, _%_, _≤_, _<_}
 use native.Mathlib.Nat.{mul-le-mul, add-sub-cancel-left, div-add-mod'}
 use native.Mathlib.Omega.{arith}
 use mathlib.Core.List.{List}
-use lib.Dec.{T, eqb, eqb→eq, leb, leb→le, le→leb, ltb, lt→ltb}
+use lib.Dec.{T, eqb, eqb→eq, leb, leb→le, le→leb, ltb, ltb→lt, lt→ltb}
 use lib.ListN.{length, take, drop}
-use Rattle.model.proofs.Logic.{tr, T→≡, eq-refl, and-l, and-r}
+use Rattle.model.proofs.Logic.{tr, T→≡, F→≡, eq-refl, and-l, and-r, and-both}
 use Rattle.checks.specs.Checks.{clean, listed}
 use Rattle.checks.specs.Lent.{cleanPicks}
 use Rattle.measures.specs.Kit.{widthOf}
@@ -17,7 +17,7 @@ use Rattle.area.proofs.Laws.{has}
 use Rattle.area.proofs.Lent.{width-most}
 use Rattle.place.specs.declared.Place.{Place}
 use Rattle.place.specs.Places.{between, soundPlace}
-use Rattle.place.proofs.Laws.{sound-says}
+use Rattle.place.proofs.Laws.{sound-says, sound-in}
 use Rattle.verdicts.specs.Verdicts.{stop, needed, openVerdict, pickVerdict, wholeVerdict}
 use Rattle.verdicts.specs.Fit.{Clears, Opens, Takes, Runs}
 
@@ -179,3 +179,60 @@ whole-sound n measure w a e =
       room = not-short (length a) (needed measure n m) (s6 .0);
       clean = true-of (cleanPicks n w (length w / n)) (s7 .0);
     }
+
+-- ---- the other way: where each clause holds, no cause does
+
+pub passes : (x : Bool) → T x → not x ≡ false
+passes x t = ap not (T→≡ x t)
+
+two-passes : (measure : ℕ) (x : Bool) → (measure ≡ 2 → T x) → eqb measure 2 && not x ≡ false
+two-passes measure x f = go (eqb measure 2) (λ t. f (eqb→eq measure 2 t))
+  where
+    go : (b : Bool) → (T b → T x) → b && not x ≡ false
+    go true g = passes x (g tt)
+    go false g = refl
+
+pub in-range : (low x high : ℕ) → low ≤ x → x ≤ high → not (between low x high) ≡ false
+unfolding between
+in-range low x high a b = passes (leb low x && leb x high) (and-both (leb low x) (leb x high) (le→leb low x a) (le→leb x high b))
+
+pub long-enough : (x y : ℕ) → y ≤ x → ltb x y ≡ false
+long-enough x y h = F→≡ (ltb x y) (λ t. let z = ltb→lt x y t in omega arith)
+
+pub opens-verdict : {n measure limit : ℕ} {footprint a : List ℕ} → Opens n measure limit footprint a → openVerdict n measure limit footprint a ≡ 0
+unfolding openVerdict
+opens-verdict {n} {measure} {limit} {footprint} {a} o =
+    sym (stop-step 1 (in-range 2 n 32 (o .some-boards) (o .few))
+    (stop-step 2 (in-range 1 measure 4 (o .measure-low) (o .measure-high))
+    (stop-step 3 (in-range 1 limit 4096 (o .some-picks) (o .cap))
+    (stop-step 10 (two-passes measure (eqb (length footprint) n) (λ m. eq-refl (sym (o .list m))))
+    (stop-step 5 (two-passes measure (clean n footprint) (o .clean))
+    (stop-step 4 (long-enough (length a) (needed measure n limit) (o .room)) refl))))))
+
+pub takes-verdict : {p : Place} {a w : List ℕ} → Takes p a w → pickVerdict p a w ≡ 0
+unfolding pickVerdict
+takes-verdict {p} {a} {w} t =
+    sym (stop-step 16 (ap not (sound-in p (t .sound)))
+    (stop-step 7 (F→≡ (leb (p .limit) (p .taken .0)) (λ x. let y = leb→le (p .limit) (p .taken .0) x in let z = t .below in omega arith))
+    (stop-step 10 (passes (eqb (length w) (p .boards)) (eq-refl (t .shape)))
+    (stop-step 5 (passes (clean (p .boards) w) (t .clean))
+    (stop-step 4 (long-enough (length a) (needed (p .measure) (p .boards) (p .limit)) (t .room))
+    (stop-step 6 (two-passes (p .measure) (listed (p .boards) (part (p .boards) a (p .limit + 3)) w) (t .listed)) refl))))))
+
+-- words for a whole number of picks, one at least
+pub whole-picks : (x n : ℕ) → x ≡ x / n * n → not (eqb (x % n) 0) ≡ false
+whole-picks x n e = let d = div-add-mod' x n in let z : x % n ≡ 0 = omega arith in passes (eqb (x % n) 0) (eq-refl z)
+
+pub some-picks : (m : ℕ) → 1 ≤ m → eqb m 0 ≡ false
+some-picks m h = F→≡ (eqb m 0) (λ t. let z = eqb→eq m 0 t in omega arith)
+
+pub runs-verdict : (n measure : ℕ) (w a : List ℕ) → Runs n measure (length w / n) w a → wholeVerdict n measure w a ≡ 0
+unfolding wholeVerdict
+runs-verdict n measure w a o =
+    sym (stop-step 1 (in-range 2 n 32 (o .some-boards) (o .few))
+    (stop-step 2 (in-range 1 measure 4 (o .measure-low) (o .measure-high))
+    (stop-step 10 (whole-picks (length w) n (o .words))
+    (stop-step 8 (some-picks (length w / n) (o .some-picks))
+    (stop-step 3 (long-enough 4096 (length w / n) (o .cap))
+    (stop-step 4 (long-enough (length a) (needed measure n (length w / n)) (o .room))
+    (stop-step 5 (passes (cleanPicks n w (length w / n)) (o .clean)) refl)))))))

@@ -2,8 +2,8 @@
 -- Assumes nothing.
 use Prim.Native.Nat.{_-_}
 use native.Mathlib.Omega.{arith}
-use Rattle.checks.proofs.Lent.{lent-end, lent-part, lent-room}
-use Rattle.calls.proofs.Loops.{United, first-long, united-start, united-few, united-turn, united-all}
+use Rattle.checks.proofs.Lent.{lent-end, lent-part, lent-room, first-room}
+use Rattle.calls.proofs.Loops.{United, united-start, united-few, united-turn, united-all}
 use borrow.Author.Needs.{needs}
 use Rattle.calls.proofs.unite_picks.Statement.{statement}
 use Rattle.calls.proofs.unite_picks.Tie as tie
@@ -26,7 +26,7 @@ part-copy-over-end c = omega (arith, lent-end (c .before .before .before .args .
 copy-over-requires : tie.Need-copy-over-requires Inv-loop μ-loop
 copy-over-requires c κs =
     let a = c .before .before .before .before in
-    (a .pre .0, first-long (a .args .n) (a .args .m) _ (a .pre .2) (a .pre .4))
+    (a .pre .0, first-room (a .args .n) (a .args .m) _ (a .pre .4) (a .pre .2))
 
 loop-holds : tie.Need-loop-holds Inv-loop μ-loop
 loop-holds c =

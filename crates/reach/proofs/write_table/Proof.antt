@@ -1,6 +1,6 @@
 -- `reach::write_table` meets its contract. The invariant is the table of the first k picks.
 -- Assumes nothing.
-use Rattle.reach.proofs.Picks.{reach-turn, reach-first, first-lent}
+use Rattle.reach.proofs.Picks.{reach-turn, reach-first}
 use Rattle.links.specs.Tables.{within}
 use native.Mathlib.Nat.{le-refl}
 use mathlib.Core.Path.{_≡_, sym, ap, _∙_}
@@ -9,7 +9,7 @@ use native.Mathlib.Omega.{arith}
 use lib.ListN.{length}
 use Rattle.links.specs.Composed.{reach}
 use Rattle.checks.specs.Lent.{lentPicks}
-use Rattle.checks.proofs.Lent.{lent-end, lent-part}
+use Rattle.checks.proofs.Lent.{lent-end, lent-part, first-lent}
 use borrow.Author.Needs.{needs}
 use Rattle.reach.proofs.write_table.Statement.{statement}
 use Rattle.reach.proofs.write_table.Tie as tie
