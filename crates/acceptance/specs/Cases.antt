@@ -1,5 +1,5 @@
 -- Recordings by hand: the ten cases of document 01 as one table against the whole run's definition, each in an area exact to the word. Assumes nothing.
-use mathlib.Core.Path.{_≡_, refl, _∙_}
+use mathlib.Core.Path.{_≡_, refl, _∙_, subst}
 use Prim.Native.Nat.{ℕ, _/_, _≤_}
 use native.Mathlib.Omega.{arith}
 use mathlib.Core.List.{List, [], _∷_}
@@ -49,18 +49,24 @@ D = 2 ∷ 1 ∷ 0 ∷ 0 ∷ []
 abbrev pub F : List ℕ
 F = 0 ∷ 0 ∷ []
 
--- THE TABLE of document 01: refusal, length, compositions, tests
-pub cases :
-    (run 2 1 A ≡ outcome 9 0 0 1)
-    × (run 2 2 A ≡ outcome 0 2 6 4)
-    × (run 2 3 A ≡ outcome 0 2 3 4)
-    × (run 2 4 A ≡ outcome 0 3 4 4)
-    × (run 2 1 B ≡ outcome 0 3 2 3)
-    × (run 2 3 B ≡ outcome 0 1 0 3)
-    × (run 3 1 C ≡ outcome 0 1 3 5)
-    × (run 2 1 D ≡ outcome 9 0 1 3)
-    × (run 2 3 D ≡ outcome 0 2 0 2)
-    × (run 2 2 F ≡ outcome 0 1 0 1)
+-- THE TABLE of document 01: boards, measure, recording; refusal, length, compositions, tests. `Case` says it of each.
+abbrev pub TenCases : (ℕ → ℕ → List ℕ → Outcome → Type 0) → Type 0
+TenCases Case =
+    Case 2 1 A (outcome 9 0 0 1)
+    × Case 2 2 A (outcome 0 2 6 4)
+    × Case 2 3 A (outcome 0 2 3 4)
+    × Case 2 4 A (outcome 0 3 4 4)
+    × Case 2 1 B (outcome 0 3 2 3)
+    × Case 2 3 B (outcome 0 1 0 3)
+    × Case 3 1 C (outcome 0 1 3 5)
+    × Case 2 1 D (outcome 9 0 1 3)
+    × Case 2 3 D (outcome 0 2 0 2)
+    × Case 2 2 F (outcome 0 1 0 1)
+
+abbrev pub Answers : ℕ → ℕ → List ℕ → Outcome → Type 0
+Answers n measure w o = run n measure w ≡ o
+
+pub cases : TenCases Answers
 unfolding run bit link tab zeros every without bothRow intersection eitherRow union gathered throughRow composeRow compose within pairFull rowFull full connected
     rowSame same rows sooner later after apart arriveBy departBy arrival departure arrivals departures composeTimes ownTime ownTimes inTime rowInTime allInTime
     allowed cleanRow clean lentPick cleanPick cleanPicks widthOf ownOf joinOf passOf part putPart composeAt copyAt zeroAt ownAt zeroed fresh pickTaken
@@ -80,17 +86,7 @@ anywhere n measure w o e a h =
     same-anywhere n measure w a (zeros k) h (omega (arith, length-zeros k)) ∙ e
 
 -- and so do the ten
-pub cases-anywhere :
-    Anywhere 2 1 A (outcome 9 0 0 1)
-    × Anywhere 2 2 A (outcome 0 2 6 4)
-    × Anywhere 2 3 A (outcome 0 2 3 4)
-    × Anywhere 2 4 A (outcome 0 3 4 4)
-    × Anywhere 2 1 B (outcome 0 3 2 3)
-    × Anywhere 2 3 B (outcome 0 1 0 3)
-    × Anywhere 3 1 C (outcome 0 1 3 5)
-    × Anywhere 2 1 D (outcome 9 0 1 3)
-    × Anywhere 2 3 D (outcome 0 2 0 2)
-    × Anywhere 2 2 F (outcome 0 1 0 1)
+pub cases-anywhere : TenCases Anywhere
 cases-anywhere = (
   anywhere 2 1 A _ (cases .0),
   anywhere 2 2 A _ (cases .1),
@@ -105,36 +101,27 @@ cases-anywhere = (
 )
 
 -- and each of the ten is right by the meaning: the length over all windows, or 9 where there is none
-abbrev pub RightCase : ℕ → ℕ → List ℕ → Type 0
-RightCase n measure w = Right measure (Passes measure n (unions n w (length w / n)) (recording n w)) (length w / n) (run n measure w)
+abbrev pub RightCase : ℕ → ℕ → List ℕ → Outcome → Type 0
+RightCase n measure w o = Right measure (Passes measure n (unions n w (length w / n)) (recording n w)) (length w / n) o
 
-right-case : (n measure : ℕ) (w : List ℕ) → wholeVerdict n measure w (zeros (needed measure n (length w / n))) ≡ 0 → RightCase n measure w
+right-case : (n measure : ℕ) (w : List ℕ) (o : Outcome) → run n measure w ≡ o → wholeVerdict n measure w (zeros (needed measure n (length w / n))) ≡ 0
+    → RightCase n measure w o
 unfolding run
-right-case n measure w e = whole n measure w (zeros (needed measure n (length w / n))) e .right
+right-case n measure w o e v = subst (RightCase n measure w) e (whole n measure w (zeros (needed measure n (length w / n))) v .right)
 
-pub cases-right :
-    RightCase 2 1 A
-    × RightCase 2 2 A
-    × RightCase 2 3 A
-    × RightCase 2 4 A
-    × RightCase 2 1 B
-    × RightCase 2 3 B
-    × RightCase 3 1 C
-    × RightCase 2 1 D
-    × RightCase 2 3 D
-    × RightCase 2 2 F
+pub cases-right : TenCases RightCase
 unfolding bit link tab zeros every without allowed cleanRow clean lentPick cleanPick cleanPicks widthOf between stop wholeVerdict
 cases-right = (
-  right-case 2 1 A refl,
-  right-case 2 2 A refl,
-  right-case 2 3 A refl,
-  right-case 2 4 A refl,
-  right-case 2 1 B refl,
-  right-case 2 3 B refl,
-  right-case 3 1 C refl,
-  right-case 2 1 D refl,
-  right-case 2 3 D refl,
-  right-case 2 2 F refl,
+  right-case 2 1 A _ (cases .0) refl,
+  right-case 2 2 A _ (cases .1) refl,
+  right-case 2 3 A _ (cases .2) refl,
+  right-case 2 4 A _ (cases .3) refl,
+  right-case 2 1 B _ (cases .4) refl,
+  right-case 2 3 B _ (cases .5) refl,
+  right-case 3 1 C _ (cases .6) refl,
+  right-case 2 1 D _ (cases .7) refl,
+  right-case 2 3 D _ (cases .8) refl,
+  right-case 2 2 F _ (cases .9) refl,
 )
 
 -- the table of reach of A is words 2, 1

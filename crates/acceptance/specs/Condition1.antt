@@ -147,7 +147,8 @@ reading-refused = refused-law
 
 -- ---- the checks say exactly when: no cause refuses a call where its clauses hold, by the meaning, and only there
 
-pub opening-exactly : (n measure limit : ℕ) (footprint a : List ℕ) → (openSays n measure limit footprint a .refusal ≡ 0) ↔ MayOpen n measure limit footprint a
+pub opening-exactly : (n measure limit : ℕ) (footprint a : List ℕ)
+    → (openSays n measure limit footprint a .refusal ≡ 0) ↔ MayOpen n measure limit footprint a
 unfolding openSays
 opening-exactly = open-exactly
 

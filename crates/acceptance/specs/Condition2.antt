@@ -101,7 +101,8 @@ pub in-any-order : (n measure limit : ℕ) (footprint a : List ℕ) → openVerd
 in-any-order = any-order
 
 -- Each length call of a list of calls is such a one: it is answered of the state after the calls before it.
-pub each-answer : (st : State) (xs ys : List Event) → answers st (xs ++ (asked ∷ ys)) ≡ answers st xs ++ (lengthSays (met st xs .place) ∷ answers (met st xs) ys)
+pub each-answer : (st : State) (xs ys : List Event)
+    → answers st (xs ++ (asked ∷ ys)) ≡ answers st xs ++ (lengthSays (met st xs .place) ∷ answers (met st xs) ys)
 each-answer = answers-on
 
 -- STOP AND START, at any pick: what was taken before the stop and after it is one recording, and the lengths answered are those of this recording.

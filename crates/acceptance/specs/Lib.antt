@@ -2,8 +2,9 @@
 --
 -- CONDITION 1
 --   "Every answer is .. or one of the numbered refusals of document 01, for all input whatsoever": the contracts of the calls, none with a `requires`,
---       are equations with definitions that are total; which numbers a call gives: Condition1.opening-numbers, pick-numbers, length-numbers, whole-numbers,
---       table-numbers, reading-numbers; exactly when none of them comes: Condition1.opening-exactly, pick-exactly, whole-exactly, table-exactly, reading-exactly
+--       are equations with definitions that are total; which numbers a call gives: Condition1.opening-numbers, pick-numbers, length-numbers,
+--       whole-numbers, table-numbers, reading-numbers; exactly when none of them comes: Condition1.opening-exactly, pick-exactly, whole-exactly,
+--       table-exactly, reading-exactly
 --   "and it always comes": every function is proved to end
 --   "A refused pick changes neither the place record nor the work area": Condition1.pick-refused; the other calls: opening-refused, whole-refused,
 --       table-refused, reading-refused

@@ -95,8 +95,7 @@ pub start-other : (n measure m : ℕ) (w a : List ℕ) {p : Place} {b : List ℕ
 unfolding wholeStart openedArea
 start-other n measure m w a ne f q z = (
   f ∙ charged-none (fresh measure n m) ∙ ap (λ (x : Bool). charged (fresh measure n m) (either x (m - 1) 0)) (sym (ne-eqb measure 2 ne)),
-  z ∙ ap (λ (x : ℕ). zeroed ((m + 4) * x) a) q
-      ∙ ap (λ (x : Bool). either x (putPart (widthOf measure n) (zeroed (needed measure n m) a) (m + 3) (unions n w m)) (zeroed (needed measure n m) a)) (sym (ne-eqb measure 2 ne)),
+  z ∙ simp (q, ne-eqb measure 2 ne),
 )
 
 -- under measure 2 it is made in part m + 3

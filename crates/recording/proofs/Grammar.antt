@@ -1,5 +1,6 @@
 -- The reader takes exactly the files of the grammar, and reads what they say. Assumes nothing.
 use mathlib.Core.Path.{_≡_, refl, sym, ap, _∙_}
+use mathlib.Core.Logic.{_↔_}
 use mathlib.Core.List.{List, [], _∷_, _++_, append-nil, append-assoc}
 use Prim.Native.Nat.{ℕ, zero, suc, _+_, _-_, _≤_, _<_}
 use native.Mathlib.Nat.{not-suc-le-zero, le-of-suc-le-suc, le-refl}
@@ -14,7 +15,7 @@ use Rattle.checks.specs.Lent.{lentPick}
 use Rattle.commands.proofs.Admit.{no}
 use Rattle.recording.specs.Format.{Content, ended, refused, commands, recordingAt, readFile}
 use Rattle.recording.specs.Answers.{read, fileSays, readSays}
-use Rattle.recording.specs.Grammar.{Entry, sets, pick, spell, spellAll, spellFile, isOpen, befores, Follow, Reads, ReadsExactly, ReadsWhatIsTold}
+use Rattle.recording.specs.Grammar.{Entry, sets, pick, spell, spellAll, spellFile, isOpen, befores, Follow, Reads, Told}
 use Rattle.recording.proofs.Sound.{found}
 use Rattle.recording.proofs.Laws.{number-positive, is-alone, pick-law}
 use Rattle.recording.proofs.Turn.{More, after, taking, entry-turn, end-turn, head-turn, Turned, at-entry, at-end, turned, head-back}
@@ -157,7 +158,7 @@ module _ (limit : ℕ) (bytes out : List ℕ) where
       (omega (arith, r .few)) (omega arith) in
       record { come = e .come; as-told = e .as-told; ends = rw (k, e .ends, le-ltb (length bytes) (length bytes) (le-refl _)) }
 
-pub reads-exactly : ReadsExactly
+pub reads-exactly : (limit : ℕ) (bytes out : List ℕ) → (readSays limit bytes out .refusal ≡ 0) ↔ Reads limit (length out) bytes
 unfolding readSays
 reads-exactly limit bytes out =
     ((λ q. by (readFile limit (length out) bytes) refl q), λ r. ap (λ (o : Content). fileSays o .refusal) (read-whole limit bytes out r .ends))
@@ -166,7 +167,7 @@ reads-exactly limit bytes out =
     by (ended m ps end) i j = spelled limit bytes out m ps end i
     by (refused r) i j = absurd (number-positive r j)
 
-pub reads-what-is-told : ReadsWhatIsTold
+pub reads-what-is-told : (limit : ℕ) (bytes out : List ℕ) (r : Reads limit (length out) bytes) → Told limit bytes out (r .n) (r .entries)
 unfolding readSays lentPick
 reads-what-is-told limit bytes out r =
     let e = read-whole limit bytes out r in

@@ -82,17 +82,9 @@ pub record Reads (limit room : ℕ) (bytes : List ℕ) : Type 0 where
   -- no pick beyond the limit
   pub few : length (befores [] entries) ≤ limit
 
--- ---- what is claimed
+-- ---- what a reading then gives: n, as many picks as there are 50s, and at each pick just the links that are open then
 
--- THE READER'S CHECKS SAY EXACTLY WHEN, both ways, for every limit, file and output.
-abbrev pub ReadsExactly : Type 0
-ReadsExactly = (limit : ℕ) (bytes out : List ℕ) → (readSays limit bytes out .refusal ≡ 0) ↔ Reads limit (length out) bytes
-
--- WHAT IS READ is what the file says: n, as many picks as it has 50s, and at each pick just the links that are open then.
 pub record Told (limit : ℕ) (bytes out : List ℕ) (n : ℕ) (entries : List Entry) : Type 0 where
   pub answer : readSays limit bytes out ≡ read 0 n (length (befores [] entries))
   pub links : (k : ℕ) → k < length (befores [] entries) → (u v : ℕ)
       → T (link (lentPick n (readLeaves limit bytes out) k) u v) ↔ T (isOpen (getD (befores [] entries) k []) u v)
-
-abbrev pub ReadsWhatIsTold : Type 0
-ReadsWhatIsTold = (limit : ℕ) (bytes out : List ℕ) (r : Reads limit (length out) bytes) → Told limit bytes out (r .n) (r .entries)

@@ -30,7 +30,8 @@ copy-over-requires c κs =
 
 loop-holds : tie.Need-loop-holds Inv-loop μ-loop
 loop-holds c =
-    united-start _ _ _ _ _ (c .before .before .before .before .before .before .before .pre .2) (c .before .before .before .before .before .before .before .pre .4) (c .before .before .copy-over .ensures)
+    let a = c .before .before .before .before .before .before .before in
+    united-start _ _ _ _ _ (a .pre .2) (a .pre .4) (c .before .before .copy-over .ensures)
 
 mul-at : tie.Need-mul-at Inv-loop μ-loop
 mul-at c =
@@ -62,7 +63,9 @@ unite-into-requires c κs =
 
 charged-requires : tie.Need-charged-requires Inv-loop μ-loop
 charged-requires c κs =
-    (united-few (c .before .before .before .before .before .before .loop .inv) (c .before .before .before .before .before .before .before .before .before .before .before .before .before .before .pre .5) (c .before .before .before .before .before .before .before .before .before .before .before .before .before .before .pre .3), omega arith)
+    let l = c .before .before .before .before .before .before in
+    let a = l .before .before .before .before .before .before .before .before in
+    (united-few (l .loop .inv) (a .pre .5) (a .pre .3), omega arith)
 
 add-k : tie.Need-add-k Inv-loop μ-loop
 add-k c = search needs
@@ -72,7 +75,9 @@ loop-less c = search needs
 
 loop-again : tie.Need-loop-again Inv-loop μ-loop
 loop-again c =
-    united-turn (c .before .before .before .before .before .before .before .loop .inv) (c .before .before .before .before .before .before .loop-test .taken) (lent-part _ _ _) (c .before .before .before .unite-into .ensures) (c .charged .ensures)
+    let u = c .before .before .before in
+    let t = u .before .before .before in
+    united-turn (t .before .loop .inv) (t .loop-test .taken) (lent-part _ _ _) (u .unite-into .ensures) (c .charged .ensures)
 
 same-length : tie.Need-same-length Inv-loop μ-loop
 same-length c = search needs

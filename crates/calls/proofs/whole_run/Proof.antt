@@ -19,7 +19,8 @@ unfolding wholeStart
 whole-steps-requires c κs =
     let t = c .before .before .before in
     let a = t .before .before .before .before in
-    whole-starts _ _ _ _ _ _ (a .pre) (list-cost (a .args .measure) (a .args .m) (a .pre .cap)) (t .whole-start .ensures .0) (t .whole-start .kept .1 .1 .1 .1 .0)
+    whole-starts _ _ _ _ _ _ (a .pre) (list-cost (a .args .measure) (a .args .m) (a .pre .cap)) (t .whole-start .ensures .0)
+    (t .whole-start .kept .1 .1 .1 .1 .0)
 
 width-requires : tie.Need-width-requires
 width-requires c κs = search needs
@@ -58,7 +59,8 @@ returns c =
     let t = u .before .before .before .before in
     let a = t .before .before .before .before in (
       c .report .ensures ∙ ap (λ (x : Place). reportSays (reported x) x)
-          (whole-ends (a .args .n) (a .args .measure) (a .args .m) (a .args .words .now) (a .args .area .now) (t .whole-start .ensures) (u .whole-steps .ensures .0)),
+          (whole-ends (a .args .n) (a .args .measure) (a .args .m) (a .args .words .now) (a .args .area .now) (t .whole-start .ensures)
+          (u .whole-steps .ensures .0)),
       z .zero-first .ensures ∙ rw (c .before .before .before .before .before .width .ensures)
           (whole-beyond (a .args .n) (a .args .measure) (a .args .m) (a .args .words .now) (a .args .area .now) _ (a .pre) (t .whole-start .ensures)
           (u .whole-steps .ensures .1 .beyond)),

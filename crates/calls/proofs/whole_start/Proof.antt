@@ -37,8 +37,9 @@ same-length c = search needs
 returns : tie.Need-returns
 returns c =
     let z = c .before .before .before in
-    let a = z .before .before .before .before .before .before in
-    start-other (a .args .n) (a .args .measure) (a .args .m) _ _ (c .if1 .taken) (z .before .before .before .«open» .ensures) (z .before .before .width .ensures) (z .zero-first .ensures)
+    let w = z .before .before in
+    let a = w .before .before .before .before in
+    start-other (a .args .n) (a .args .measure) (a .args .m) _ _ (c .if1 .taken) (w .before .«open» .ensures) (w .width .ensures) (z .zero-first .ensures)
 
 -- part m + 3 ends before the needed words do, and those are few and lie in the area
 within : (c : tie.Else1)
