@@ -15,6 +15,7 @@ use Rattle.links.specs.Tables.{union, eitherRow}
 use Rattle.checks.specs.Lent.{lentPick}
 use Rattle.checks.proofs.Lent.{lent-long, first-lent, first-room}
 use Rattle.measures.specs.Kit.{Kit, kit, widthOf, either}
+use Rattle.measures.proofs.Words.{width-links}
 use Rattle.area.specs.Parts.{putPart, zeroed}
 use Rattle.place.specs.declared.Place.{Place}
 use Rattle.place.specs.Places.{fresh, charged}
@@ -90,24 +91,20 @@ module _ {n m : ℕ} {p : Place} {w : List ℕ} {k : ℕ} {q : Place} {t : List 
 -- ---- the start
 
 -- under the other measures there is no footprint
-pub start-other : (n measure m : ℕ) (w a : List ℕ) {p : Place} {b : List ℕ} {e : ℕ} → (measure ≡ 2 → ⊥) → p ≡ fresh measure n m → e ≡ widthOf measure n
-    → b ≡ zeroed ((m + 4) * e) a → (p ≡ wholeStart n measure m w a .place) × (b ≡ wholeStart n measure m w a .area)
+pub start-other : (n measure m : ℕ) (w a : List ℕ) {p : Place} {b : List ℕ} → (measure ≡ 2 → ⊥) → p ≡ fresh measure n m → b ≡ zeroed (needed measure n m) a
+    → state p b ≡ wholeStart n measure m w a
 unfolding wholeStart openedArea
-start-other n measure m w a ne f q z = (
-  f ∙ charged-none (fresh measure n m) ∙ ap (λ (x : Bool). charged (fresh measure n m) (either x (m - 1) 0)) (sym (ne-eqb measure 2 ne)),
-  z ∙ simp (q, ne-eqb measure 2 ne),
-)
+start-other n measure m w a ne f z = simp (ne-eqb measure 2 ne) (ap₂ state (f ∙ charged-none (fresh measure n m)) z)
 
 -- under measure 2 it is made in part m + 3
-pub start-footprint : (n measure m : ℕ) (w a : List ℕ) {p q : Place} {b t : List ℕ} {e : ℕ} → measure ≡ 2 → q ≡ fresh measure n m → e ≡ widthOf measure n
-    → b ≡ zeroed ((m + 4) * e) a → (p ≡ charged q (m - 1)) × (t ≡ unions n w m)
-    → (p ≡ wholeStart n measure m w a .place) × (take ((m + 2) * e) b ++ (t ++ drop e (drop ((m + 2) * e) b)) ≡ wholeStart n measure m w a .area)
+pub start-footprint : (n measure m : ℕ) (w a : List ℕ) {p q : Place} {b t : List ℕ} → measure ≡ 2 → q ≡ fresh measure n m → b ≡ zeroed (needed measure n m) a
+    → (p ≡ charged q (m - 1)) × (t ≡ unions n w m)
+    → state p (take ((m + 2) * n) b ++ (t ++ drop n (drop ((m + 2) * n) b))) ≡ wholeStart n measure m w a
 unfolding wholeStart openedArea putPart
-start-footprint n measure m w a {p} {q} {b} {t} {e} two f k z u =
-    let i : m + 2 ≡ m + 3 - 1 = omega arith in (
-      u .0 ∙ ap (λ (x : Place). charged x (m - 1)) f ∙ ap (λ (x : Bool). charged (fresh measure n m) (either x (m - 1) 0)) (sym (eq-eqb measure 2 two)),
-      simp (z, u .1, k, i, eq-eqb measure 2 two),
-    )
+start-footprint n measure m w a two f z u =
+    let i : m + 2 ≡ m + 3 - 1 = omega arith in
+    let e = width-links measure n (λ x. omega arith) in
+    simp (eq-eqb measure 2 two) (ap₂ state (u .0 ∙ ap (λ (x : Place). charged x (m - 1)) f) (simp (z, u .1, e, i)))
 
 -- ---- the steps
 
@@ -237,23 +234,23 @@ whole-starts n measure m c w a {p} {b} f h e l =
     })
 
 -- what the walk of a whole run comes to
-pub whole-ends : (n measure m : ℕ) (w a : List ℕ) {p q : Place} {b d : List ℕ} → (p ≡ wholeStart n measure m w a .place) × (b ≡ wholeStart n measure m w a .area)
+pub whole-ends : (n measure m : ℕ) (w a : List ℕ) {p q : Place} {b d : List ℕ} → state p b ≡ wholeStart n measure m w a
     → Does (stepsOf (kitOf p) (p .boards) w m) p b q d → q ≡ wholeAfter n measure m w a m .place
 unfolding wholeAfter wholeStart charged fresh
-whole-ends n measure m w a e g = g .0 ∙ ap₂ (λ (x : Place) (y : List ℕ). stepsOf (kitOf x) (x .boards) w m (state x y) .place) (e .0) (e .1)
+whole-ends n measure m w a e g = g .0 ∙ ap (λ (x : State). stepsOf (kitOf (x .place)) (x .place .boards) w m x .place) e
 
 -- the words beyond the needed ones
-pub whole-beyond : (n measure m : ℕ) (w a d : List ℕ) {p : Place} {b : List ℕ} → Runs n measure m w a
-    → (p ≡ wholeStart n measure m w a .place) × (b ≡ wholeStart n measure m w a .area)
+pub whole-beyond : (n measure m : ℕ) (w a d : List ℕ) {p : Place} {b : List ℕ} → Runs n measure m w a → state p b ≡ wholeStart n measure m w a
     → drop ((p .limit + 4) * widthOf (p .measure) (p .boards)) d ≡ drop ((p .limit + 4) * widthOf (p .measure) (p .boards)) b
     → zeroed (needed measure n m) d ≡ zeroed (needed measure n m) a
 unfolding zeroed wholeStart charged fresh
 whole-beyond n measure m w a d {p} {b} f e h =
     let z = f .words in
-    let k : drop (needed measure n m) d ≡ drop (needed measure n m) b =
-    subst (λ (x : Place). drop ((x .limit + 4) * widthOf (x .measure) (x .boards)) d ≡ drop ((x .limit + 4) * widthOf (x .measure) (x .boards)) b) (e .0) h in
+    let k : drop (needed measure n m) d ≡ drop (needed measure n m) (openedArea n measure m (unions n w m) a) =
+    subst (λ (x : State). drop ((x .place .limit + 4) * widthOf (x .place .measure) (x .place .boards)) d
+    ≡ drop ((x .place .limit + 4) * widthOf (x .place .measure) (x .place .boards)) (x .area)) e h in
     ap (λ (x : List ℕ). zeros (needed measure n m) ++ x)
-    (k ∙ ap (drop (needed measure n m)) (e .1) ∙ opened-beyond n measure m (unions n w m) a (f .room) (λ x. sym (length-unions n w m (omega arith))))
+    (k ∙ opened-beyond n measure m (unions n w m) a (f .room) (λ x. sym (length-unions n w m (omega arith))))
 
 pub list-cost : (measure m : ℕ) → m ≤ 4096 → either (eqb measure 2) (m - 1) 0 ≤ 4096
 list-cost measure m h = go (eqb measure 2)

@@ -6,11 +6,12 @@ ghost use Rattle.area.specs.Parts.{zeroed};
 ghost use Rattle.place.specs.Places.{charged};
 ghost use Rattle.verdicts.specs.Verdicts.{needed};
 ghost use Rattle.verdicts.specs.Fit.{Clears, Runs};
-ghost use Rattle.steps.specs.Walk.{kitOf, reported};
+ghost use Rattle.steps.specs.Walk.{state, kitOf, reported};
 ghost use Rattle.steps.specs.Fit.{Does};
 ghost use Rattle.calls.specs.Answers.{openingSays, takingSays, answerSays};
 ghost use Rattle.calls.specs.Fit.{Starts, Ends};
-ghost use Rattle.calls.specs.Calls.{openedArea, openSays, openLeaves, pickSays, pickLeaves, reportSays, lengthSays, unions, wholeStart, stepsOf, wholeReport, wholeSays, wholeLeaves};
+ghost use Rattle.calls.specs.Calls.{openedArea, openSays, openLeaves, pickSays, pickLeaves, reportSays, lengthSays};
+ghost use Rattle.calls.specs.Calls.{unions, wholeStart, stepsOf, wholeReport, wholeSays, wholeLeaves};
 use model::Compositions;
 use model::Refusal;
 use model::Tests;
@@ -43,17 +44,25 @@ pub struct Measured {
 
 // ---- opening
 
+// The needed words zero.
+fn zero_needed(n: usize, measure: usize, limit: usize, area: &mut [u32])
+    requires { ⌜ (n ≤ 32) × (limit ≤ 4096) × (needed measure n limit ≤ length (now area)) ⌝ }
+    ensures { λ _. ⌜ now (area .exit) ≡ zeroed (needed measure n limit) (now (area .entry)) ⌝ }
+{
+    let e = measures::width(measure, n);
+    area::zero_first(area, (limit + 4) * e);
+}
+
 // The needed words zero, and the footprint of measure 2 in part limit + 3.
 fn open_area(n: usize, measure: usize, limit: usize, footprint: &[u32], area: &mut [u32])
     requires { ⌜ Clears n measure limit (now footprint) (now area) ⌝ }
     ensures { λ _. ⌜ now (area .exit) ≡ openedArea n measure limit (now (footprint .entry)) (now (area .entry)) ⌝ }
 {
-    let e = measures::width(measure, n);
-    area::zero_first(area, (limit + 4) * e);
+    zero_needed(n, measure, limit, area);
     if measure != 2 {
         return;
     }
-    area::put_part(area, footprint, e, limit + 3);
+    area::put_part(area, footprint, n, limit + 3);
 }
 
 // Opens a walk over n boards.
@@ -147,16 +156,15 @@ fn unite_picks(p: Place, words: &[u32], n: usize, m: usize, out: &mut [u32]) -> 
 // The place and the area that a whole run starts from. Only measure 2 has a footprint: the union of all picks, made in part m + 3.
 fn whole_start(n: usize, measure: usize, words: &[u32], m: usize, area: &mut [u32]) -> Place
     requires { ⌜ Runs n measure m (now words) (now area) ⌝ }
-    ensures { λ r. ⌜ (r ≡ wholeStart n measure m (now (words .entry)) (now (area .entry)) .place) × (now (area .exit) ≡ wholeStart n measure m (now (words .entry)) (now (area .entry)) .area) ⌝ }
+    ensures { λ r. ⌜ state r (now (area .exit)) ≡ wholeStart n measure m (now (words .entry)) (now (area .entry)) ⌝ }
 {
     let p = Place::open(measure, n, m);
-    let e = measures::width(measure, n);
-    area::zero_first(area, (m + 4) * e);
+    zero_needed(n, measure, m, area);
     if measure != 2 {
         return p;
     }
-    let at = (m + 2) * e;
-    unite_picks(p, words, n, m, &mut area[at..at + e])
+    let at = (m + 2) * n;
+    unite_picks(p, words, n, m, &mut area[at..at + n])
 }
 
 // All picks, one after the other, by the unchecked step: a count that starts at m - 1 would be refused as 16.
@@ -180,8 +188,7 @@ fn whole_run(n: usize, measure: usize, words: &[u32], m: usize, area: &mut [u32]
 {
     let p = whole_start(n, measure, words, m, area);
     let q = whole_steps(p, area, words, m);
-    let e = measures::width(measure, n);
-    area::zero_first(area, (m + 4) * e);
+    zero_needed(n, measure, m, area);
     report(q)
 }
 

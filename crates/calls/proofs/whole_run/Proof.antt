@@ -3,8 +3,7 @@
 use mathlib.Core.Path.{ap, _∙_}
 use native.Mathlib.Omega.{arith}
 use Rattle.place.specs.declared.Place.{Place}
-use Rattle.verdicts.proofs.Verdicts.{needed-most}
-use Rattle.steps.specs.Walk.{reported}
+use Rattle.steps.specs.Walk.{State, reported}
 use Rattle.calls.specs.Calls.{reportSays, wholeStart, wholeReport}
 use Rattle.calls.proofs.Loops.{whole-starts, whole-ends, whole-beyond, list-cost}
 use borrow.Author.Needs.{needs}
@@ -19,30 +18,15 @@ unfolding wholeStart
 whole-steps-requires c κs =
     let t = c .before .before .before in
     let a = t .before .before .before .before in
-    whole-starts _ _ _ _ _ _ (a .pre) (list-cost (a .args .measure) (a .args .m) (a .pre .cap)) (t .whole-start .ensures .0)
+    whole-starts _ _ _ _ _ _ (a .pre) (list-cost (a .args .measure) (a .args .m) (a .pre .cap)) (ap (λ (x : State). x .place) (t .whole-start .ensures))
     (t .whole-start .kept .1 .1 .1 .1 .0)
 
-width-requires : tie.Need-width-requires
-width-requires c κs = search needs
-
-add-zero-first : tie.Need-add-zero-first
-add-zero-first c = search needs
-
-mul-zero-first : tie.Need-mul-zero-first
-mul-zero-first c =
-    let a = c .before .before .before .before .before .before .before .before .before .before .before .before in
-    omega (arith, needed-most (a .args .measure) (a .args .n) (a .args .m) (c .before .width .result) (a .pre .few) (a .pre .cap) (c .before .width .ensures))
-
-zero-first-requires : tie.Need-zero-first-requires
-zero-first-requires c κs =
-    let u = c .before .before .before .before in
-    let t = u .before .before .before .before in
-    let a = t .before .before .before .before in
-    rw (c .before .width .ensures) (let k = u .whole-steps .kept .1 .0 in let l = t .whole-start .kept .1 .1 .1 .1 .0 in let r = a .pre .room in omega arith)
+zero-needed-requires : tie.Need-zero-needed-requires
+zero-needed-requires c κs = search needs
 
 report-requires : tie.Need-report-requires
 report-requires c κs =
-    let u = c .before .before .before .before .before .before .before in
+    let u = c .before .before .before .before .before .before in
     let a = u .before .before .before .before .before .before .before .before in
     let t = u .whole-steps .ensures .1 .all-taken in
     let k = a .pre .cap in
@@ -55,15 +39,14 @@ returns : tie.Need-returns
 unfolding wholeReport
 returns c =
     let z = c .before .before .before in
-    let u = z .before .before .before .before .before in
+    let u = z .before .before .before .before in
     let t = u .before .before .before .before in
     let a = t .before .before .before .before in (
       c .report .ensures ∙ ap (λ (x : Place). reportSays (reported x) x)
           (whole-ends (a .args .n) (a .args .measure) (a .args .m) (a .args .words .now) (a .args .area .now) (t .whole-start .ensures)
           (u .whole-steps .ensures .0)),
-      z .zero-first .ensures ∙ rw (c .before .before .before .before .before .width .ensures)
-          (whole-beyond (a .args .n) (a .args .measure) (a .args .m) (a .args .words .now) (a .args .area .now) _ (a .pre) (t .whole-start .ensures)
-          (u .whole-steps .ensures .1 .beyond)),
+      z .zero-needed .ensures ∙ whole-beyond (a .args .n) (a .args .measure) (a .args .m) (a .args .words .now) (a .args .area .now) _ (a .pre)
+          (t .whole-start .ensures) (u .whole-steps .ensures .1 .beyond),
     )
 
 pub whole-run-spec : {M : Type 1} → statement M
@@ -72,10 +55,7 @@ whole-run-spec =
     (tie.spec
     whole-start-requires
     whole-steps-requires
-    width-requires
-    add-zero-first
-    mul-zero-first
-    zero-first-requires
+    zero-needed-requires
     report-requires
     same-length
     returns)

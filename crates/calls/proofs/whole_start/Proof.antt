@@ -1,14 +1,15 @@
 -- `calls::whole_start` meets its contract: the footprint is made in part m + 3, which ends before the needed words do.
 -- Assumes nothing.
-use mathlib.Core.Path.{refl, sym, ap, _∙_}
+use mathlib.Core.Path.{sym, ap}
 use Prim.Native.Nat.{_+_, _*_, _≤_}
 use native.Mathlib.Nat.{add-sub-cancel-left}
 use native.Mathlib.Omega.{arith}
-use Rattle.checks.proofs.Lent.{lent-end, lent-room}
 use lib.ListN.{length}
+use Rattle.checks.proofs.Lent.{lent-end, lent-room}
 use Rattle.place.specs.declared.Place.{Place}
 use Rattle.place.specs.Places.{fresh}
-use Rattle.verdicts.proofs.Verdicts.{needed-most, footprint-fills}
+use Rattle.measures.proofs.Words.{width-links}
+use Rattle.verdicts.proofs.Verdicts.{needed-most, links-room}
 use Rattle.calls.proofs.Loops.{start-other, start-footprint}
 use borrow.Author.Needs.{needs}
 use Rattle.calls.proofs.whole_start.Statement.{statement}
@@ -17,19 +18,8 @@ use Rattle.calls.proofs.whole_start.Tie as tie
 open-requires : tie.Need-open-requires
 open-requires c κs = search needs
 
-width-requires : tie.Need-width-requires
-width-requires c κs = search needs
-
-add-zero-first : tie.Need-add-zero-first
-add-zero-first c = search needs
-
-mul-zero-first : tie.Need-mul-zero-first
-mul-zero-first c =
-    let a = c .before .before .before .before .before in
-    omega (arith, needed-most (a .args .measure) (a .args .n) (a .args .m) (c .before .width .result) (a .pre .few) (a .pre .cap) (c .before .width .ensures))
-
-zero-first-requires : tie.Need-zero-first-requires
-zero-first-requires c κs = rw (c .before .width .ensures) (c .before .before .before .before .before .pre .room)
+zero-needed-requires : tie.Need-zero-needed-requires
+zero-needed-requires c κs = search needs
 
 same-length : tie.Need-same-length
 same-length c = search needs
@@ -37,22 +27,22 @@ same-length c = search needs
 returns : tie.Need-returns
 returns c =
     let z = c .before .before .before in
-    let w = z .before .before in
-    let a = w .before .before .before .before in
-    start-other (a .args .n) (a .args .measure) (a .args .m) _ _ (c .if1 .taken) (w .before .«open» .ensures) (w .width .ensures) (z .zero-first .ensures)
+    let a = z .before .before .before .before .before in
+    start-other (a .args .n) (a .args .measure) (a .args .m) _ _ (c .if1 .taken) (z .before .before .«open» .ensures) (z .zero-needed .ensures)
 
 -- part m + 3 ends before the needed words do, and those are few and lie in the area
 within : (c : tie.Else1)
-    → let a = c .before .before .before .before .before .before .before .before .before in
-    let e = c .before .before .before .before .before .width .result in
-    ((a .args .m + 2) * e + e ≤ (a .args .m + 4) * e) × ((a .args .m + 4) * e ≤ 8396800)
-    × ((a .args .m + 4) * e ≤ length (c .before .before .before .zero-first .last .0))
+    → let a = c .before .before .before .before .before .before .before .before in
+    ((a .args .m + 2) * a .args .n + a .args .n ≤ (a .args .m + 4) * a .args .n) × ((a .args .m + 4) * a .args .n ≤ 8396800)
+    × ((a .args .m + 4) * a .args .n ≤ length (c .before .before .before .zero-needed .last .1 .1 .1 .0))
 within c =
-    let a = c .before .before .before .before .before .before .before .before .before in
-    let w = c .before .before .before .before .before .width in (
-      lent-end (w .result) {k = a .args .m + 2} {m = a .args .m + 4} (omega arith),
-      needed-most (a .args .measure) (a .args .n) (a .args .m) (w .result) (a .pre .few) (a .pre .cap) (w .ensures),
-      rw (w .ensures, c .before .before .before .zero-first .kept .0) (a .pre .room),
+    let z = c .before .before .before in
+    let a = z .before .before .before .before .before in
+    let two = c .if1 .left in (
+      lent-end (a .args .n) {k = a .args .m + 2} {m = a .args .m + 4} (omega arith),
+      needed-most (a .args .measure) (a .args .n) (a .args .m) (a .args .n) (a .pre .few) (a .pre .cap)
+          (sym (width-links (a .args .measure) (a .args .n) (λ x. omega arith))),
+      rw (z .zero-needed .kept .1 .1 .1 .0) (links-room (a .args .measure) (a .args .n) (a .args .m) _ two (a .pre .room)),
     )
 
 add-at : tie.Need-add-at
@@ -80,15 +70,13 @@ unite-picks-requires : tie.Need-unite-picks-requires
 unfolding fresh
 unite-picks-requires c κs =
     let f = c .before in
-    let w = f .before .before .before .before .before in
-    let a = w .before .before .before .before in (
-      sym (footprint-fills (a .args .measure) (a .args .n) (w .width .result) (a .args .n) (f .if1 .left) (w .width .ensures) refl)
-          ∙ lent-room (w .width .result) (a .args .m + 2) (a .args .m + 4) _ (within f .2) (omega arith),
+    let a = f .before .before .before .before .before .before .before .before in (
+      lent-room (a .args .n) (a .args .m + 2) (a .args .m + 4) _ (within f .2) (omega arith),
       a .pre .few,
       a .pre .some-picks,
       a .pre .cap,
       omega (arith, a .pre .words),
-      ap (λ (x : Place). x .compositions .0) (w .before .«open» .ensures),
+      ap (λ (x : Place). x .compositions .0) (f .before .before .before .before .before .«open» .ensures),
     )
 
 same-length-2 : tie.Need-same-length-2
@@ -98,20 +86,17 @@ returns-2 : tie.Need-returns-2
 returns-2 c =
     let u = c .before .before in
     let f = u .before .before in
-    let w = f .before .before .before .before .before in
-    let a = w .before .before .before .before in
-    simp add-sub-cancel-left (start-footprint (a .args .n) (a .args .measure) (a .args .m) _ _ (f .if1 .left) (w .before .«open» .ensures) (w .width .ensures)
-    (f .before .before .before .zero-first .ensures) (u .unite-picks .ensures))
+    let z = f .before .before .before in
+    let a = z .before .before .before .before .before in
+    simp add-sub-cancel-left (start-footprint (a .args .n) (a .args .measure) (a .args .m) _ _ (f .if1 .left) (z .before .before .«open» .ensures)
+    (z .zero-needed .ensures) (u .unite-picks .ensures))
 
 pub whole-start-spec : {M : Type 1} → statement M
 whole-start-spec =
     tie.close
     (tie.spec
     open-requires
-    width-requires
-    add-zero-first
-    mul-zero-first
-    zero-first-requires
+    zero-needed-requires
     same-length
     returns
     add-at
