@@ -21,7 +21,7 @@ use Rattle.law.specs.Claim2.{opened, after, Taken, Walked, recording, listCost,
 use Rattle.law.specs.Online.{online}
 use Rattle.law.specs.Whole.{whole}
 use Rattle.numbers.specs.Moved.{Tells, Moved, RunMoved, Decided}
-use Rattle.numbers.specs.Events.{Event, asked, met, answers, InOrder, Resumed}
+use Rattle.numbers.specs.Events.{Event, asked, afterEvents, answers, InOrder, Resumed}
 use Rattle.numbers.specs.Lent.{Exact}
 use Rattle.numbers.proofs.Counts.{picks-moved, picks-decided, run-moved, run-decided}
 use Rattle.numbers.proofs.Events.{any-order, answers-on, resumes}
@@ -102,7 +102,7 @@ in-any-order = any-order
 
 -- Each length call of a list of calls is such a one: it is answered of the state after the calls before it.
 pub each-answer : (st : State) (xs ys : List Event)
-    → answers st (xs ++ (asked ∷ ys)) ≡ answers st xs ++ (lengthSays (met st xs .place) ∷ answers (met st xs) ys)
+    → answers st (xs ++ (asked ∷ ys)) ≡ answers st xs ++ (lengthSays (afterEvents st xs .place) ∷ answers (afterEvents st xs) ys)
 each-answer = answers-on
 
 -- STOP AND START, at any pick: what was taken before the stop and after it is one recording, and the lengths answered are those of this recording.

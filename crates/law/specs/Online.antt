@@ -38,13 +38,7 @@ use Rattle.law.specs.Measures.{Fits, Charge, told, PartsAre, parts}
 
 -- ---- picks through the call, one after the other
 
--- THEOREM, stopping and starting: picks taken one after another are the same as the first part of them and then the rest, gone on with from the
--- same record and area.
-pub stop-and-start : (st : State) (x y : List (List ℕ)) → after st (x ++ y) ≡ after (after st x) y
-unfolding after
-stop-and-start st [] y = refl
-stop-and-start st (w ∷ ws) y = stop-and-start (picked st w) ws y
-
+-- picks taken one after another are taken in two parts, the second from the state that the first has left
 pub taken-split : (st : State) (x y : List (List ℕ)) → Taken st (x ++ y) ↔ (Taken st x × Taken (after st x) y)
 unfolding after
 taken-split st [] y = (λ t. (tt, t), λ t. t .1)

@@ -32,7 +32,7 @@ pub fn first(spent: usize) -> Numbers
     }
 }
 
-// ---- the chains
+// ---- the ladders, 01's chains
 
 // "b becomes m and the left chain is built over s to m, costing m - s."
 fn rebuilt(x: Numbers) -> Numbers
@@ -61,7 +61,7 @@ fn joined(x: Numbers) -> Numbers
 }
 
 // "When s exceeds b + 1, .. Otherwise a new pick joins .."
-fn chained(x: Numbers) -> Numbers
+fn extended(x: Numbers) -> Numbers
     requires { ⌜ Within x ⌝ }
     ensures { λ r. ⌜ Spends 0 4096 0 x r ⌝ }
 {
@@ -78,12 +78,12 @@ fn one_if(yes: bool) -> usize
     if yes { 1 } else { 0 }
 }
 
-// A new pick: m is one more, "s rises by one .., else stays", and the chains take the pick in.
+// A new pick: m is one more, "s rises by one .., else stays", and the ladders take the pick in.
 fn entered(x: Numbers, rises: bool) -> Numbers
     requires { ⌜ Kept x × ((x .m < 4096) × (x .s + one rises ≤ x .m + 1)) ⌝ }
     ensures { λ r. ⌜ Within r × ((r .m ≡ x .m + 1) × ((r .compositions ≤ x .compositions + 4096) × (r .tests ≤ x .tests))) ⌝ }
 {
-    chained(Numbers {
+    extended(Numbers {
         m: x.m + 1,
         s: x.s + one_if(rises),
         ..x
@@ -129,7 +129,7 @@ fn smallest_step(words: &[u32], n: usize, picks: usize, measure: usize, x: Numbe
 
 // ---- measure 1
 
-// "After a failure s rises by one", and where it then exceeds b + 1 the left chain is built. No pick joins.
+// "After a failure s rises by one", and where it then exceeds b + 1 the left ladder is built. No pick joins.
 fn raised(x: Numbers) -> Numbers
     requires { ⌜ Within x × (x .s < x .m) ⌝ }
     ensures { λ r. ⌜ Spends 1 4096 0 x r ⌝ }
