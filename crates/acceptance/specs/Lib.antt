@@ -4,7 +4,8 @@
 --   "Every answer is .. or one of the numbered refusals of document 01, for all input whatsoever": the contracts of the calls, none with a `requires`,
 --       are equations with definitions that are total; which numbers a call gives: Condition1.opening-numbers, pick-numbers, length-numbers,
 --       whole-numbers, table-numbers, reading-numbers; exactly when none of them comes: Condition1.opening-exactly, pick-exactly, whole-exactly,
---       table-exactly, reading-exactly
+--       table-exactly, reading-exactly. Which cause has which number, and which of several is named, is read off the definitions: `verdicts/specs/Verdicts`,
+--       `calls/specs/Calls.lengthSays`, `reach/specs/Tables`, `commands/specs`, in 01's order
 --   "and it always comes": every function is proved to end
 --   "A refused pick changes neither the place record nor the work area": Condition1.pick-refused; the other calls: opening-refused, whole-refused,
 --       table-refused, reading-refused
@@ -12,6 +13,8 @@
 --   "After each pick taken .. each length equals the definition .. over all windows of the picks so far, .. and refusal 9 comes only when no such length
 --       exists": Condition2.pick-by-pick; that there are such picks: Condition1.what-fits-is-taken; picks, refused picks and length calls in any order:
 --       Condition2.in-any-order
+--   "a length being from 1 to their number and document 01's link list serving as the footprint": `model/specs/Length` (low, high), `law/specs/Correct.Passes`
+--       over the list that was handed over or, in a whole run, over the union of all picks (`law/specs/Claim2.Ran .footprint`)
 --   "and at the end of each whole-recording run": Condition2.whole-runs; in whatever area: Area.any-area
 --   "the table of reach marks exactly the pairs joined by a journey": Condition2.table, table-words
 --   "provided, pick by pick, that record and area come back as the last call left them": `after` of `law/specs/Claim2`, and the events of

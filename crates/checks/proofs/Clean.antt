@@ -58,4 +58,5 @@ listed-is n l w k = (
         let hx : x < 2 ^ b = lt-of-lt-of-le (k .words .small u) (le-of-lt (pow-lt (omega arith))) in
         let hy : y < 2 ^ b = lt-of-lt-of-le (below-power y) (le-of-lt (pow-lt (omega arith))) in
         bits-ext b (bitOr x y) y (or-lt b x y hx hy) hy
-        (λ v h. bit-or x y v ∙ bool-ext (bit x v || bit y v) (bit y v) (λ m. ⊎-elim (f u v) (λ (z : T (bit y v)). z) (or-cases (bit x v) (bit y v) m)) (or-r (bit x v) (bit y v)))
+        (λ v h. bit-or x y v ∙ bool-ext (bit x v || bit y v) (bit y v) (λ m. ⊎-elim (f u v) (λ (z : T (bit y v)). z) (or-cases (bit x v) (bit y v) m))
+        (or-r (bit x v) (bit y v)))

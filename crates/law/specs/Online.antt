@@ -146,7 +146,8 @@ good-listed n measure l (w ∷ ws) m g (suc (suc t)) u v a b o = good-listed n m
 
 -- ---- THE THEOREM
 
-pub opened-start : (n measure limit : ℕ) (footprint a : List ℕ) (e : openVerdict n measure limit footprint a ≡ 0) (room : needed measure n limit ≤ length a) (list : measure ≡ 2 → n ≡ length footprint)
+pub opened-start : (n measure limit : ℕ) (footprint a : List ℕ) (e : openVerdict n measure limit footprint a ≡ 0) (room : needed measure n limit ≤ length a)
+    (list : measure ≡ 2 → n ≡ length footprint)
     → opened n measure limit footprint a ≡ start n measure limit footprint a room list 0
 unfolding openSays openLeaves fresh charged
 opened-start n measure limit footprint a e room list =
@@ -169,13 +170,15 @@ no-charge (suc zero) = refl
 no-charge (suc (suc x)) = tt
 
 -- what picks that were taken from an opening come to: a recording, and a walk over it
-pub record Walk-over (n measure limit : ℕ) (footprint a : List ℕ) (room : needed measure n limit ≤ length a) (list : measure ≡ 2 → n ≡ length footprint) (ws : List (List ℕ)) : Type 0 where
+pub record Walk-over (n measure limit : ℕ) (footprint a : List ℕ) (room : needed measure n limit ≤ length a) (list : measure ≡ 2 → n ≡ length footprint)
+    (ws : List (List ℕ)) : Type 0 where
   pub rec : Recording n ws
   pub few : length ws ≤ limit
   pub fit : Fits measure footprint ws n
   pub same : after (opened n measure limit footprint a) ws ≡ walked (kit measure n) ws (start n measure limit footprint a room list 0) (length ws)
 
-pub walk-over : (n measure limit : ℕ) (footprint a : List ℕ) (e : openVerdict n measure limit footprint a ≡ 0) (ws : List (List ℕ)) → Taken (opened n measure limit footprint a) ws
+pub walk-over : (n measure limit : ℕ) (footprint a : List ℕ) (e : openVerdict n measure limit footprint a ≡ 0) (ws : List (List ℕ))
+    → Taken (opened n measure limit footprint a) ws
     → Walk-over n measure limit footprint a (open-sound n measure limit footprint a e .room) (open-sound n measure limit footprint a e .list) ws
 unfolding fresh charged
 walk-over n measure limit footprint a e ws t =

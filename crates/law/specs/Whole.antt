@@ -79,7 +79,8 @@ module _ (n : ℕ) (w : List ℕ) (m : ℕ) (room : m * n ≤ length w) (ok : T 
             let d = pick-at n r rec (f .0) x (omega (arith, length-lent n w m)) in
             let hu = link-from n (pickAt r (f .0)) (d .words) u v (f .3) in
             tr (sym (union-link n q p u v hu))
-            (⊎-elim (λ (z : f .0 ≡ suc (suc k)). or-r (link q u v) (link p u v) (subst (λ (y : List ℕ). T (link y u v)) e (subst (λ (y : ℕ). Open r y u v) z (f .3))))
+            (⊎-elim (λ (z : f .0 ≡ suc (suc k)). or-r (link q u v) (link p u v)
+            (subst (λ (y : List ℕ). T (link y u v)) e (subst (λ (y : ℕ). Open r y u v) z (f .3))))
             (λ (z : f .0 < suc (suc k)). or-l (link q u v) (link p u v) (ih .1 (f .0, x, omega arith, f .3))) (eq-or-lt-of-le y)),
       )
 
@@ -100,7 +101,8 @@ whole-charge (suc zero) m = refl
 whole-charge (suc (suc x)) m = tt
 
 -- the run is a walk over the recording
-pub whole-walks : (n measure : ℕ) (w a : List ℕ) (room : needed measure n (length w / n) ≤ length a) (list : measure ≡ 2 → n ≡ length (unions n w (length w / n))) (k : ℕ) → k ≤ length w / n
+pub whole-walks : (n measure : ℕ) (w a : List ℕ) (room : needed measure n (length w / n) ≤ length a)
+    (list : measure ≡ 2 → n ≡ length (unions n w (length w / n))) (k : ℕ) → k ≤ length w / n
     → wholeAfter n measure (length w / n) w a k ≡ walked (kit measure n) (recording n w) (start n measure (length w / n) (unions n w (length w / n)) a room list (listCost measure (length w / n))) k
 unfolding wholeAfter stepsOf wholeStart walked
 whole-walks n measure w a room list zero h = refl

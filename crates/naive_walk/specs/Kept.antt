@@ -1,4 +1,5 @@
--- What the numbers of a walk keep to, so that no sum and no difference of them goes out of range. Nothing here says that they are right.
+-- What the numbers of a walk keep to, so that no sum and no difference of them goes out of range. Nothing here says that they are right: a pick has at
+-- most 4,096 rises of at most 4,097 compositions, and the bounds on counts are round numbers far above what 4,096 such picks come to.
 use Prim.Native.Nat.{ℕ, _+_, _*_, _≤_}
 use mathlib.Core.Bool.{Bool, true, false}
 use mathlib.Core.Path.{_≡_}

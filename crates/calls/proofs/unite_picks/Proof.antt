@@ -59,7 +59,8 @@ unite-into-requires : tie.Need-unite-into-requires Inv-loop μ-loop
 unite-into-requires c κs =
     let l = c .before .before .before in
     let a = l .before .before .before .before .before .before .before .before in
-    (l .loop .inv .long, omega (arith, lent-room (a .args .n) (l .loop .k) (a .args .m) (a .args .words .now) (a .pre .4) (c .before .before .loop-test .taken)))
+    let k = lent-room (a .args .n) (l .loop .k) (a .args .m) (a .args .words .now) (a .pre .4) (c .before .before .loop-test .taken) in
+    (l .loop .inv .long, omega arith)
 
 charged-requires : tie.Need-charged-requires Inv-loop μ-loop
 charged-requires c κs =
