@@ -1,20 +1,31 @@
 -- THE WORK AREA of document 01: which words are written and read, and what each part holds. Assumes nothing.
-use mathlib.Core.Path.{_≡_}
+use mathlib.Core.Path.{_≡_, refl, sym, ap, _∙_, subst}
+use mathlib.Core.Logic.{_≢_, ⊎-elim}
+use mathlib.Core.Bool.{_&&_}
 use mathlib.Core.List.{List, [], _∷_, _++_}
-use Prim.Native.Nat.{ℕ, _/_, _≤_}
-use lib.ListN.{length, take}
+use Prim.Native.Nat.{ℕ, _+_, _*_, _/_, _≤_}
+use native.Mathlib.Omega.{arith}
+use lib.Dec.{eqb}
+use lib.ListN.{length, take, drop, length-drop}
+use lib.Seq.{getD-drop, ext-getD}
+use Rattle.model.proofs.Logic.{eq-or}
+use Rattle.lists.specs.Tab.{zeros}
+use Rattle.measures.specs.Kit.{widthOf, either}
+use Rattle.area.specs.Parts.{part}
 use Rattle.place.specs.declared.Place.{Place}
-use Rattle.verdicts.specs.Verdicts.{needed, openVerdict, pickVerdict}
+use Rattle.verdicts.specs.Verdicts.{needed, openVerdict, pickVerdict, wholeVerdict}
 use Rattle.calls.specs.Calls.{openSays, openLeaves, pickSays, pickLeaves, wholeSays, wholeLeaves}
+use Rattle.recording.specs.Answers.{Read, read, readSays, readLeaves}
+use Rattle.recording.specs.Gives.{Gives}
+use Rattle.recording.proofs.Laws.{read-law, refused-law}
 use Rattle.law.specs.Claim2.{opened, after, Taken}
-use Rattle.numbers.specs.Checks.{MayOpen, SameWalk}
-use Rattle.numbers.specs.Lent.{Beyond}
+use Rattle.numbers.specs.Checks.{MayOpen}
+use Rattle.numbers.specs.Lent.{Beyond, SameWalk}
 use Rattle.numbers.specs.Parts.{lastEntered, PartsTell, AsBefore, LeftLadder}
 use Rattle.numbers.proofs.Beyond.{open-beyond, pick-beyond, run-beyond}
-use Rattle.numbers.proofs.Needed.{open-reads-only, pick-reads-only, run-reads-only}
+use Rattle.numbers.proofs.Needed.{open-reads-only, pick-reads-only, run-reads-only, run-zero, walk-anywhere}
 use Rattle.numbers.proofs.Counts.{same-anywhere}
-use Rattle.numbers.proofs.Taken.{walk-anywhere}
-use Rattle.numbers.proofs.Parts.{part-by-part, otherwise-as-before}
+use Rattle.numbers.proofs.Parts.{opening-parts, part-by-part, otherwise-as-before}
 use Rattle.numbers.proofs.LeftLadders.{left-ladders}
 
 -- ---- "Words beyond are untouched": for every place, area and words, altered ones included, taken or refused
@@ -27,6 +38,27 @@ beyond-pick = pick-beyond
 
 pub beyond-whole : (n measure : ℕ) (w a : List ℕ) → Beyond (needed measure n (length w / n)) a (wholeLeaves n measure w a)
 beyond-whole = run-beyond
+
+-- "pick p's words go from output word (p - 1) × n on, other words stay"; a refused file has 0 picks here, so that all words stay
+pub beyond-reading : (limit : ℕ) (bytes out : List ℕ)
+    → Beyond (readSays limit bytes out .picks * readSays limit bytes out .boards) out (readLeaves limit bytes out)
+beyond-reading limit bytes out =
+    ⊎-elim (λ (e : r .refusal ≡ 0). words-stay (read-law limit bytes out (r .boards) (r .picks) (ap (λ (c : ℕ). read c (r .boards) (r .picks)) e)))
+    (λ (f : r .refusal ≢ 0). subst (Beyond (r .picks * r .boards) out) (sym (refused-law limit bytes out f)) (record { size = refl; words = refl }))
+    (eq-or (r .refusal) 0)
+  where
+    r : Read
+    r = readSays limit bytes out
+
+    words-stay : {n count : ℕ} {left : List ℕ} → Gives limit n count out left → Beyond (count * n) out left
+    words-stay {n} {count} {left} g =
+        let k = count * n in
+        let l = g .long in
+        record {
+          size = l;
+          words = ext-getD 0 (drop k left) (drop k out) (omega (arith, length-drop k left, length-drop k out))
+              (λ i h. getD-drop k left i 0 ∙ g .beyond (k + i) (omega arith) ∙ sym (getD-drop k out i 0));
+        }
 
 -- ---- nor are they read: two areas with the same needed words are answered alike, and their needed words are left alike
 
@@ -52,12 +84,23 @@ pub any-area : (n measure : ℕ) (w a b : List ℕ) → needed measure n (length
     → wholeSays n measure w a ≡ wholeSays n measure w b
 any-area = same-anywhere
 
--- And so is a walk pick by pick.
+-- And so is a walk pick by pick: place, counts included, and needed words.
 pub walk-in-any-area : (n measure limit : ℕ) (footprint a b : List ℕ) → MayOpen n measure limit footprint a → MayOpen n measure limit footprint b
     → (ws : List (List ℕ)) → Taken (opened n measure limit footprint a) ws → SameWalk n measure limit footprint a b ws
 walk-in-any-area = walk-anywhere
 
+-- "A whole-recording run ends with the needed words zero, refusal 9 included": wherever no cause before 9 refuses it.
+pub whole-zero : (n measure : ℕ) (w a : List ℕ) → wholeVerdict n measure w a ≡ 0
+    → take (needed measure n (length w / n)) (wholeLeaves n measure w a) ≡ zeros (needed measure n (length w / n))
+whole-zero = run-zero
+
 -- ---- "What a part (E words) then holds is defined part by part": in words of windows, links and journeys
+
+-- "Opening sets the needed words to zero and writes the list of measure 2 to part limit + 3."
+pub opening-area : (n measure limit : ℕ) (footprint a : List ℕ) → openVerdict n measure limit footprint a ≡ 0 → (i : ℕ) → 1 ≤ i → i ≤ limit + 4
+    → part (widthOf measure n) (openLeaves n measure limit footprint a) i
+    ≡ either (eqb measure 2 && eqb i (limit + 3)) footprint (zeros (widthOf measure n))
+opening-area = opening-parts
 
 -- Each part, for every opening that is answered by a place and all picks taken; after the end of measure 1 as the ending pick left it.
 pub each-part : (n measure limit : ℕ) (footprint a : List ℕ) → openVerdict n measure limit footprint a ≡ 0
