@@ -1,7 +1,7 @@
 -- CONDITION 1 of the tender: for all input whatsoever each call answers by an answer of the listed kinds or by one of its numbered refusals; a
 -- refused call changes nothing; and no call refuses what its clauses let through. That each call meets these definitions for every input, and always
 -- returns, is its proved contract: none has a `requires`. Assumes nothing.
-use mathlib.Core.Path.{_≡_, refl, ap}
+use mathlib.Core.Path.{_≡_, refl, sym, ap, subst}
 use mathlib.Core.Logic.{_↔_}
 use mathlib.Core.Bool.{Bool, true, false, _&&_, not}
 use mathlib.Core.Option.{Option, none, some}
@@ -19,7 +19,7 @@ use Rattle.checks.specs.Lent.{cleanPicks}
 use Rattle.measures.specs.Kit.{either}
 use Rattle.area.specs.Parts.{part}
 use Rattle.place.specs.declared.Place.{Place}
-use Rattle.place.specs.Places.{fresh, nowhere, between, soundPlace}
+use Rattle.place.specs.Places.{fresh, nowhere, between, soundPlace, Sound}
 use Rattle.verdicts.specs.Verdicts.{stop, needed, openVerdict, pickVerdict, wholeVerdict}
 use Rattle.steps.specs.Walk.{State, reported}
 use Rattle.calls.specs.Answers.{outcome}
@@ -36,7 +36,8 @@ use Rattle.law.specs.Claim2.{opened, Taken}
 use Rattle.law.specs.Measures.{Fits}
 use Rattle.law.specs.Whole.{whole-refused as refused-run}
 use Rattle.numbers.specs.Checks.{MayOpen, MayTake, MayRun, MayTable}
-use Rattle.numbers.proofs.Taken.{open-exactly, pick-exactly as picks-exactly, whole-exactly as runs-exactly, table-exactly as tables-exactly, all-taken}
+use Rattle.numbers.proofs.Taken.{open-exactly, open-unlisted, pick-exactly as picks-exactly, sixteen-exactly, eight-exactly}
+use Rattle.numbers.proofs.Taken.{whole-exactly as runs-exactly, table-exactly as tables-exactly, all-taken}
 
 -- x is one of the numbers listed
 pub data Among (x : ℕ) : List ℕ → Type 0 where
@@ -55,6 +56,21 @@ unfolding openSays openVerdict
 opening-numbers n measure limit footprint a =
     among-stop (not (between 2 n 32)) 1 _ _ (among-stop (not (between 1 measure 4)) 2 _ _ (among-stop (not (between 1 limit 4096)) 3 _ _
     (among-stop (eqb measure 2 && not (eqb (length footprint) n)) 10 _ _ (among-stop (eqb measure 2 && not (clean n footprint)) 5 _ _ (among-stop (ltb (length a) (needed measure n limit)) 4 0 _ (first refl))))))
+
+-- "Under the other measures no list is read and opening does not give 10 or 5": any two lists are answered alike and leave the same words
+pub list-unread : (n measure limit : ℕ) (x y a : List ℕ) → (measure ≡ 2 → ⊥)
+    → (openSays n measure limit x a ≡ openSays n measure limit y a) × (openLeaves n measure limit x a ≡ openLeaves n measure limit y a)
+list-unread = open-unlisted
+
+pub opening-numbers-no-list : (n measure limit : ℕ) (footprint a : List ℕ) → (measure ≡ 2 → ⊥)
+    → Among (openSays n measure limit footprint a .refusal) (1 ∷ 2 ∷ 3 ∷ 4 ∷ 0 ∷ [])
+unfolding openSays openVerdict stop
+opening-numbers-no-list n measure limit footprint a f =
+    subst (λ (b : Bool). Among (stop (not (between 2 n 32)) 1 (stop (not (between 1 measure 4)) 2 (stop (not (between 1 limit 4096)) 3
+    (stop (b && not (eqb (length footprint) n)) 10 (stop (b && not (clean n footprint)) 5 (stop (ltb (length a) (needed measure n limit)) 4 0)))))) (1 ∷ 2 ∷ 3 ∷ 4 ∷ 0 ∷ []))
+    (sym (F→≡ (eqb measure 2) (λ t. f (eqb→eq measure 2 t))))
+    (among-stop (not (between 2 n 32)) 1 _ _ (among-stop (not (between 1 measure 4)) 2 _ _ (among-stop (not (between 1 limit 4096)) 3 _ _
+    (among-stop (ltb (length a) (needed measure n limit)) 4 0 _ (first refl)))))
 
 pub pick-numbers : (p : Place) (a w : List ℕ) → Among (pickSays p a w .refusal) (16 ∷ 7 ∷ 10 ∷ 5 ∷ 4 ∷ 6 ∷ 0 ∷ [])
 unfolding pickVerdict
@@ -155,6 +171,13 @@ opening-exactly = open-exactly
 -- from any place, also one that was altered
 pub pick-exactly : (p : Place) (a w : List ℕ) → (pickSays p a w .refusal ≡ 0) ↔ MayTake p a w
 pick-exactly = picks-exactly
+
+-- the length call gives 16 exactly where the place is not sound, and 8 exactly where it is sound and has no pick; otherwise it answers: a length or 9
+pub length-sixteen : (p : Place) → (lengthSays p .refusal ≡ 16 → ⊥) ↔ Sound p
+length-sixteen = sixteen-exactly
+
+pub length-eight : (p : Place) → (lengthSays p .refusal ≡ 8) ↔ (Sound p × (p .taken .0 ≡ 0))
+length-eight = eight-exactly
 
 -- 9 is no cause: it comes after a run
 pub whole-exactly : (n measure : ℕ) (w a : List ℕ) → (wholeVerdict n measure w a ≡ 0) ↔ MayRun n measure w a
