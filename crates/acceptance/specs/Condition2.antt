@@ -25,7 +25,7 @@ use Rattle.numbers.specs.Events.{Event, asked, afterEvents, answers, InOrder, R
 use Rattle.numbers.specs.Lent.{Exact}
 use Rattle.numbers.proofs.Counts.{picks-moved, picks-decided, run-moved, run-decided}
 use Rattle.numbers.proofs.Events.{any-order, answers-on, resumes}
-use Rattle.numbers.proofs.Table.{table-exact}
+use Rattle.numbers.proofs.Table.{table-marks-all, table-exact}
 
 -- PICK BY PICK. For every opening that is answered by a place and every sequence of picks that are taken, record and area coming back as the last
 -- call left them: the length call answers the length over all windows of the picks so far (`Walked .right`), 9 only where none exists, with the
@@ -43,7 +43,7 @@ whole-runs = whole
 -- recording.
 pub table : (n : ℕ) (w out : List ℕ) → tableVerdict n w out ≡ 0 → (u v : ℕ)
     → T (link (take n (tableLeaves n w out)) u v) ↔ ((u ≢ v) × Journey (recording n w) unlimited 1 (length w / n) u v)
-table n w out e = table-exact n w out e .marks
+table = table-marks-all
 
 -- So bits n and above and own bits are clear; and the words beyond are what was there.
 pub table-words : (n : ℕ) (w out : List ℕ) → tableVerdict n w out ≡ 0 → Exact n w out
