@@ -39,7 +39,7 @@ beyond-pick = pick-beyond
 pub beyond-whole : (n measure : ℕ) (w a : List ℕ) → Beyond (needed measure n (length w / n)) a (wholeLeaves n measure w a)
 beyond-whole = run-beyond
 
--- "pick p's words go from output word (p - 1) × n on, other words stay"; a refused file has 0 picks here, so that all words stay
+-- "pick p's words go from output word (p - 1) × n on, other words stay"; of a refused file picks and n are 0, so all words stay
 pub beyond-reading : (limit : ℕ) (bytes out : List ℕ)
     → Beyond (readSays limit bytes out .picks * readSays limit bytes out .boards) out (readLeaves limit bytes out)
 beyond-reading limit bytes out =
