@@ -36,7 +36,7 @@ use Rattle.law.specs.Claim2.{opened, Taken}
 use Rattle.law.specs.Measures.{Fits}
 use Rattle.law.specs.Whole.{whole-refused as refused-run}
 use Rattle.numbers.specs.Checks.{MayOpen, MayTake, MayRun, MayTable}
-use Rattle.numbers.proofs.Taken.{open-exactly, open-unlisted, pick-exactly as picks-exactly, sixteen-exactly, eight-exactly}
+use Rattle.numbers.proofs.Taken.{open-exactly, unlisted-verdict, open-unlisted, pick-exactly as picks-exactly, sixteen-exactly, eight-exactly}
 use Rattle.numbers.proofs.Taken.{whole-exactly as runs-exactly, table-exactly as tables-exactly, all-taken}
 
 -- x is one of the numbers listed
@@ -60,15 +60,13 @@ opening-numbers n measure limit footprint a =
 -- "Under the other measures no list is read and opening does not give 10 or 5": any two lists are answered alike and leave the same words
 pub list-unread : (n measure limit : ℕ) (x y a : List ℕ) → (measure ≡ 2 → ⊥)
     → (openSays n measure limit x a ≡ openSays n measure limit y a) × (openLeaves n measure limit x a ≡ openLeaves n measure limit y a)
-list-unread = open-unlisted
+list-unread n measure limit x y a f = open-unlisted n measure limit a f x y
 
 pub opening-numbers-no-list : (n measure limit : ℕ) (footprint a : List ℕ) → (measure ≡ 2 → ⊥)
     → Among (openSays n measure limit footprint a .refusal) (1 ∷ 2 ∷ 3 ∷ 4 ∷ 0 ∷ [])
-unfolding openSays openVerdict stop
+unfolding openSays
 opening-numbers-no-list n measure limit footprint a f =
-    subst (λ (b : Bool). Among (stop (not (between 2 n 32)) 1 (stop (not (between 1 measure 4)) 2 (stop (not (between 1 limit 4096)) 3
-    (stop (b && not (eqb (length footprint) n)) 10 (stop (b && not (clean n footprint)) 5 (stop (ltb (length a) (needed measure n limit)) 4 0)))))) (1 ∷ 2 ∷ 3 ∷ 4 ∷ 0 ∷ []))
-    (sym (F→≡ (eqb measure 2) (λ t. f (eqb→eq measure 2 t))))
+    subst (λ (c : ℕ). Among c (1 ∷ 2 ∷ 3 ∷ 4 ∷ 0 ∷ [])) (sym (unlisted-verdict n measure limit a f footprint))
     (among-stop (not (between 2 n 32)) 1 _ _ (among-stop (not (between 1 measure 4)) 2 _ _ (among-stop (not (between 1 limit 4096)) 3 _ _
     (among-stop (ltb (length a) (needed measure n limit)) 4 0 _ (first refl)))))
 
