@@ -3,7 +3,7 @@ use mathlib.Core.Path.{_≡_, refl, sym, ap, ap₂, _∙_, subst}
 use mathlib.Core.Bool.{Bool, true, false}
 use mathlib.Core.List.{List, _++_}
 use Prim.Native.Nat.{ℕ, zero, suc, _+_, _-_, _*_, _≤_, _<_, zero-le}
-use native.Mathlib.Nat.{le-refl, add-assoc}
+use native.Mathlib.Nat.{le-refl}
 use native.Mathlib.Numerals.{add-one}
 use native.Mathlib.Omega.{arith}
 use borrow.Author.Tests.{eq-eqb, ne-eqb}
@@ -46,46 +46,36 @@ unfolding unions
 unions-next n w zero h = absurd (omega arith)
 unions-next n w (suc k) h = rw add-one
 
-charged-on : (p : Place) (x y : ℕ) → charged (charged p x) y ≡ charged p (x + y)
-unfolding charged
-charged-on p x y = rw add-assoc
-
--- what holds of the words and the place once k picks are united: k - 1 unions were made, and as many compositions charged
-pub record United (n m : ℕ) (p : Place) (w : List ℕ) (k : ℕ) (q : Place) (t : List ℕ) : Type 0 where
+-- what holds once k picks are united: k - 1 unions were made
+pub record United (n m : ℕ) (w : List ℕ) (k made : ℕ) (t : List ℕ) : Type 0 where
   pub low : 1 ≤ k
   pub high : k ≤ m
   pub words : t ≡ unions n w k
   pub long : n ≡ length t
-  pub cost : q ≡ charged p (k - 1)
+  pub cost : made ≡ k - 1
 
 -- pick 1
-pub united-start : (n m : ℕ) (p : Place) (w t : List ℕ) → 1 ≤ m → m * n ≤ length w → t ≡ take (n - 0) w → United n m p w 1 p t
+pub united-start : (n m : ℕ) (w t : List ℕ) → 1 ≤ m → m * n ≤ length w → t ≡ take (n - 0) w → United n m w 1 0 t
 unfolding unions
-united-start n m p w t h room e =
-    record { low = le-refl 1; high = h; words = e ∙ first-lent n w; long = first-room n m w room h ∙ sym (ap length e); cost = charged-none p }
+united-start n m w t h room e =
+    record { low = le-refl 1; high = h; words = e ∙ first-lent n w; long = first-room n m w room h ∙ sym (ap length e); cost = refl }
 
-module _ {n m : ℕ} {p : Place} {w : List ℕ} {k : ℕ} {q : Place} {t : List ℕ} (g : United n m p w k q t) where
-  -- the charge does not wrap
-  pub united-few : p .compositions .0 ≡ 0 → m ≤ 4096 → q .compositions .0 ≤ 100000000
-  unfolding charged
-  united-few z c = let h = g .high in rw (g .cost) (omega arith)
-
+module _ {n m : ℕ} {w : List ℕ} {k made : ℕ} {t : List ℕ} (g : United n m w k made t) where
   -- a union with the pick after it
-  pub united-turn : {r : Place} {x s : List ℕ} → k < m → x ≡ lentPick n w k → s ≡ union n t x → r ≡ charged q 1 → United n m p w (k + 1) r s
-  united-turn {r} {x} {s} h e f c =
+  pub united-turn : {x s : List ℕ} → k < m → x ≡ lentPick n w k → s ≡ union n t x → United n m w (k + 1) (made + 1) s
+  united-turn {x} {s} h e f =
       let l = g .low in
-      let j : k - 1 + 1 ≡ k + 1 - 1 = omega arith in
-      let u : s ≡ unions n w (k + 1) = f ∙ ap₂ (union n) (g .words) e ∙ unions-next n w k (g .low) in
+      let c = g .cost in
       record {
         low = omega arith;
         high = omega arith;
-        words = u;
+        words = f ∙ ap₂ (union n) (g .words) e ∙ unions-next n w k (g .low);
         long = sym (ap length f ∙ length-union n t x);
-        cost = c ∙ ap (λ (y : Place). charged y 1) (g .cost) ∙ charged-on p (k - 1) 1 ∙ ap (charged p) j;
+        cost = omega arith;
       }
 
   -- all of them
-  pub united-all : m ≤ k → (q ≡ charged p (m - 1)) × (t ≡ unions n w m)
+  pub united-all : m ≤ k → (made ≡ m - 1) × (t ≡ unions n w m)
   united-all h = let a = g .high in let e : k ≡ m = omega arith in (rw e at (g .cost), rw e at (g .words))
 
 -- ---- the start

@@ -138,19 +138,19 @@ pub fn length(p: Place) -> Measured
 
 // ---- whole run
 
-// The union of m picks, from pick 1 on. Each pick after it is one union, and one composition charged.
+// The union of m picks, from pick 1 on. Each pick after it is one union, and the unions that were made are charged.
 fn unite_picks(p: Place, words: &[u32], n: usize, m: usize, out: &mut [u32]) -> Place
     requires { ⌜ (n ≡ length (now out)) × (n ≤ 32) × (1 ≤ m) × (m ≤ 4096) × (m * n ≤ length (now words)) × (p .compositions .0 ≡ 0) ⌝ }
     ensures { λ r. ⌜ (r ≡ charged p (m - 1)) × (now (out .exit) ≡ unions n (now (words .entry)) m) ⌝ }
 {
     lists::copy_over(out, &words[0..n], n);
-    let mut q = p;
+    let mut made: usize = 0;
     for k in 1..m {
         let at = k * n;
         links::unite_into(out, &words[at..at + n], n);
-        q = q.charged(1);
+        made += 1;
     }
-    q
+    p.charged(made)
 }
 
 // The place and the area that a whole run starts from. Only measure 2 has a footprint: the union of all picks, made in part m + 3.

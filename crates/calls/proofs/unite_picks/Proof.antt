@@ -1,18 +1,18 @@
--- `calls::unite_picks` meets its contract. The invariant is `United`: k - 1 unions, and as many compositions charged.
+-- `calls::unite_picks` meets its contract. The invariant is `United`: k - 1 unions are made.
 -- Assumes nothing.
 use Prim.Native.Nat.{_-_}
 use native.Mathlib.Omega.{arith}
 use Rattle.checks.proofs.Lent.{lent-end, lent-part, lent-room, first-room}
-use Rattle.calls.proofs.Loops.{United, united-start, united-few, united-turn, united-all}
+use Rattle.calls.proofs.Loops.{United, united-start, united-turn, united-all}
 use borrow.Author.Needs.{needs}
 use Rattle.calls.proofs.unite_picks.Statement.{statement}
 use Rattle.calls.proofs.unite_picks.Tie as tie
 
 abbrev Inv-loop : tie.InvT-loop
-Inv-loop words n m out₀ q₀ k₀ out q k = United n m q₀ words k q out
+Inv-loop p words n m out₀ made₀ k₀ out made k = United n m words k made out
 
 abbrev μ-loop : tie.MeasureT-loop
-μ-loop words n m out₀ q₀ k₀ out q k = m - k
+μ-loop p words n m out₀ made₀ k₀ out made k = m - k
 
 sub-copy-over : tie.Need-sub-copy-over Inv-loop μ-loop
 sub-copy-over c = search needs
@@ -31,7 +31,7 @@ copy-over-requires c κs =
 loop-holds : tie.Need-loop-holds Inv-loop μ-loop
 loop-holds c =
     let a = c .before .before .before .before .before .before .before in
-    united-start _ _ _ _ _ (a .pre .2) (a .pre .4) (c .before .before .copy-over .ensures)
+    united-start _ _ _ _ (a .pre .2) (a .pre .4) (c .before .before .copy-over .ensures)
 
 mul-at : tie.Need-mul-at Inv-loop μ-loop
 mul-at c =
@@ -62,11 +62,13 @@ unite-into-requires c κs =
     let k = lent-room (a .args .n) (l .loop .k) (a .args .m) (a .args .words .now) (a .pre .4) (c .before .before .loop-test .taken) in
     (l .loop .inv .long, omega arith)
 
-charged-requires : tie.Need-charged-requires Inv-loop μ-loop
-charged-requires c κs =
+add-made : tie.Need-add-made Inv-loop μ-loop
+add-made c =
     let l = c .before .before .before .before .before .before in
     let a = l .before .before .before .before .before .before .before .before in
-    (united-few (l .loop .inv) (a .pre .5) (a .pre .3), omega arith)
+    let e = l .loop .inv .cost in
+    let h = l .loop .inv .high in
+    omega (arith, a .pre .3)
 
 add-k : tie.Need-add-k Inv-loop μ-loop
 add-k c = search needs
@@ -76,15 +78,25 @@ loop-less c = search needs
 
 loop-again : tie.Need-loop-again Inv-loop μ-loop
 loop-again c =
-    let u = c .before .before .before in
+    let u = c .before .before in
     let t = u .before .before .before in
-    united-turn (t .before .loop .inv) (t .loop-test .taken) (lent-part _ _ _) (u .unite-into .ensures) (c .charged .ensures)
+    united-turn (t .before .loop .inv) (t .loop-test .taken) (lent-part _ _ _) (u .unite-into .ensures)
+
+charged-requires : tie.Need-charged-requires Inv-loop μ-loop
+charged-requires c κs =
+    let a = c .before .before .before .before .before .before .before .before .before in
+    let e = c .before .loop .inv .cost in
+    let h = c .before .loop .inv .high in
+    (omega (arith, a .pre .5), omega (arith, a .pre .3))
 
 same-length : tie.Need-same-length Inv-loop μ-loop
 same-length c = search needs
 
 returns : tie.Need-returns Inv-loop μ-loop
-returns c = united-all (c .before .loop .inv) (c .loop-test .left)
+returns c =
+    let l = c .before in
+    let e = united-all (l .before .loop .inv) (l .loop-test .left) in
+    (rw (e .0) at (c .charged .ensures), e .1)
 
 pub unite-picks-spec : {M : Type 1} → statement M
 unite-picks-spec =
@@ -104,9 +116,10 @@ unite-picks-spec =
     part-unite-into-start
     part-unite-into-end
     unite-into-requires
-    charged-requires
+    add-made
     add-k
     loop-less
     loop-again
+    charged-requires
     same-length
     returns)
