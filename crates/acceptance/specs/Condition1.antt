@@ -30,8 +30,8 @@ use Rattle.recording.specs.Format.{Content, ended, refused, readFile}
 use Rattle.recording.specs.Answers.{fileSays, readSays, readLeaves}
 use Rattle.recording.proofs.Causes.{ofFile, Caused, caused-file}
 use Rattle.recording.proofs.Laws.{refused-law}
-use Rattle.recording.specs.Grammar.{Reads, Told}
-use Rattle.recording.proofs.Grammar.{reads-exactly, reads-what-is-told}
+use Rattle.recording.specs.Grammar.{Reads, AsWritten}
+use Rattle.recording.proofs.Grammar.{reads-exactly, reads-as-written}
 use Rattle.law.specs.Claim2.{opened, Taken}
 use Rattle.law.specs.Measures.{Fits}
 use Rattle.law.specs.Whole.{whole-refused as refused-run}
@@ -189,8 +189,8 @@ pub reading-exactly : (limit : ℕ) (bytes out : List ℕ) → (readSays limit b
 reading-exactly = reads-exactly
 
 -- and what is read is what the grammar says: n, as many picks as there are 50s, and at each just the links that are open then
-pub reading-told : (limit : ℕ) (bytes out : List ℕ) (r : Reads limit (length out) bytes) → Told limit bytes out (r .n) (r .entries)
-reading-told = reads-what-is-told
+pub reading-as-written : (limit : ℕ) (bytes out : List ℕ) (r : Reads limit (length out) bytes) → AsWritten limit bytes out (r .n) (r .acts)
+reading-as-written = reads-as-written
 
 -- WHAT FITS IS TAKEN. From every opening that its clauses let through, every recording over n boards within the limit, and under measure 2 within the
 -- footprint, is taken pick after pick. So the theorems of condition 2 are about something.

@@ -22,10 +22,10 @@ use Rattle.law.specs.Online.{online}
 use Rattle.law.specs.Whole.{whole}
 use Rattle.numbers.specs.Moved.{Tells, Moved, RunMoved, Decided}
 use Rattle.numbers.specs.Events.{Event, asked, afterEvents, answers, InOrder, Resumed}
-use Rattle.numbers.specs.Lent.{Exact}
+use Rattle.numbers.specs.Lent.{TableWords}
 use Rattle.numbers.proofs.Counts.{picks-moved, picks-decided, run-moved, run-decided}
 use Rattle.numbers.proofs.Events.{any-order, answers-on, resumes}
-use Rattle.numbers.proofs.Table.{table-marks-all, table-exact}
+use Rattle.numbers.proofs.Table.{table-marks-all, table-words-are}
 
 -- PICK BY PICK. For every opening that is answered by a place and every sequence of picks that are taken, record and area coming back as the last
 -- call left them: the length call answers the length over all windows of the picks so far (`Walked .right`), 9 only where none exists, with the
@@ -46,8 +46,8 @@ pub table : (n : ℕ) (w out : List ℕ) → tableVerdict n w out ≡ 0 → (u v
 table = table-marks-all
 
 -- So bits n and above and own bits are clear; and the words beyond are what was there.
-pub table-words : (n : ℕ) (w out : List ℕ) → tableVerdict n w out ≡ 0 → Exact n w out
-table-words = table-exact
+pub table-words : (n : ℕ) (w out : List ℕ) → tableVerdict n w out ≡ 0 → TableWords n w out
+table-words = table-words-are
 
 -- THE COUNTS ARE THOSE OF THE WALK. After any picks taken, every number and mark of the place, and the answer of the length call, is that of the walk on
 -- numbers (`numbers/specs/Walk`: 01's section "The walk", sentence by sentence), its tests being answered as the meaning does, by whatever does so.

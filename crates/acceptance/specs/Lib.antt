@@ -2,10 +2,10 @@
 --
 -- CONDITION 1
 --   "Every answer is .. or one of the numbered refusals of document 01, for all input whatsoever": the contracts of the calls, none with a `requires`,
---       are equations with definitions that are total; which numbers a call gives: Condition1.opening-numbers, pick-numbers, length-numbers,
---       whole-numbers, table-numbers, reading-numbers; exactly when none of them comes: Condition1.opening-exactly, pick-exactly, whole-exactly,
---       table-exactly, reading-exactly. Which cause has which number, and which of several is named, is read off the definitions: `verdicts/specs/Verdicts`,
---       `calls/specs/Calls.lengthSays`, `reach/specs/Tables`, `commands/specs`, in 01's order
+--       are equations with definitions that are total. Which numbers a call gives: Condition1.opening-numbers, pick-numbers, length-numbers, whole-numbers,
+--       table-numbers, reading-numbers. Exactly when none of them comes: Condition1.opening-exactly, pick-exactly, whole-exactly, table-exactly,
+--       reading-exactly; of the length call length-sixteen, length-eight. Which cause has which number, and which of several is named, is read off the
+--       definitions, in 01's order: `verdicts/specs/Verdicts`, `calls/specs/Calls.lengthSays`, `reach/specs/Tables`, `commands/specs`
 --   "and it always comes": every function is proved to end
 --   "A refused pick changes neither the place record nor the work area": Condition1.pick-refused; the other calls: opening-refused, whole-refused,
 --       table-refused, reading-refused
@@ -26,7 +26,8 @@
 --
 -- 01, CONDITIONS FOR TAKING DELIVERY
 --   1, a promise for each input on result, place and each lent word: the contracts, equations with `calls/specs/Calls`, `reach/specs/Tables` and
---       `recording/specs/Answers`, of which everything here speaks; what each part of the area holds, and which words are written and read at all: Area
+--       `recording/specs/Answers`, of which everything here speaks; what each part of the area holds, and which words are written and read at all: Area;
+--       what is read of a file: Condition1.reading-as-written
 --   2, versions that must be rejected: "right in its first window": Condition2.pick-by-pick, for every pick; "invented counts": Condition2.counts-pick-by-pick,
 --       counts-whole; "9 before a pick is looked at": Condition2.in-any-order (8 while none is taken) and whole-runs; "one fixed length or one fixed
 --       table": Condition2.pick-by-pick, whole-runs, table; "leaves its area idle": Area.each-part; "number 4 for everyone": Condition1.opening-exactly and

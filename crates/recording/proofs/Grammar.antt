@@ -15,42 +15,42 @@ use Rattle.checks.specs.Lent.{lentPick}
 use Rattle.commands.proofs.Admit.{no}
 use Rattle.recording.specs.Format.{Content, ended, refused, commands, recordingAt, readFile}
 use Rattle.recording.specs.Answers.{read, fileSays, readSays}
-use Rattle.recording.specs.Grammar.{Entry, sets, pick, spell, spellAll, spellFile, isOpen, befores, Follow, Reads, Told}
+use Rattle.recording.specs.Grammar.{Act, sets, pick, spell, spellAll, spellFile, isOpen, befores, Follow, Reads, AsWritten}
 use Rattle.recording.proofs.Sound.{found}
 use Rattle.recording.proofs.Laws.{number-positive, is-alone, pick-law}
-use Rattle.recording.proofs.Turn.{More, after, taking, entry-turn, end-turn, head-turn, Turned, at-entry, at-end, turned, head-back}
+use Rattle.recording.proofs.Turn.{More, after, taking, act-turn, end-turn, head-turn, Turned, at-act, at-end, turned, head-back}
 use Rattle.recording.proofs.State.{Now, now-start, now-on, may-follow, follow-may, as-many}
 
 -- ---- what is read is spelled
 
--- the entries from a place on, after some picks
-record Rest (bytes : List ℕ) (n limit at count : ℕ) (earlier : List Entry) : Type 0 where
-  entries : List Entry
-  spelled : drop at bytes ≡ spellAll entries
-  follow : Follow n earlier entries
-  few : count + length (befores earlier entries) ≤ limit
+-- the acts from a place on, after some picks
+record Rest (bytes : List ℕ) (n limit at count : ℕ) (earlier : List Act) : Type 0 where
+  acts : List Act
+  spelled : drop at bytes ≡ spellAll acts
+  follow : Follow n earlier acts
+  few : count + length (befores earlier acts) ≤ limit
 
 module _ (bytes : List ℕ) (n limit m : ℕ) (ps : List (List ℕ)) (end : ℕ) (last : length bytes ≤ end) where
   -- where the reading that goes on comes to this end, the bytes are spelled
   abbrev Spelled : More → Type 0
-  Spelled more = (at : ℕ) (picks : List (List ℕ)) (links : List ℕ) (earlier : List Entry) → Now n limit earlier picks links
+  Spelled more = (at : ℕ) (picks : List (List ℕ)) (links : List ℕ) (earlier : List Act) → Now n limit earlier picks links
       → more at picks links ≡ ended m ps end → Rest bytes n limit at (length picks) earlier
 
-  step : (more : More) → Spelled more → (at : ℕ) (picks : List (List ℕ)) (links : List ℕ) (earlier : List Entry)
+  step : (more : More) → Spelled more → (at : ℕ) (picks : List (List ℕ)) (links : List ℕ) (earlier : List Act)
       → Now n limit earlier picks links → Turned bytes n limit at picks links more (ended m ps end) → Rest bytes n limit at (length picks) earlier
   unfolding spellAll
-  step more ih at picks links earlier s (at-entry x d a q) =
+  step more ih at picks links earlier s (at-act x d a q) =
       let r = ih (at + length (spell x)) (taking picks links x) (after links x) (x ∷ earlier) (now-on s x a) q in
       record {
-        entries = x ∷ r .entries;
+        acts = x ∷ r .acts;
         spelled = d ∙ ap (λ (l : List ℕ). spell x ++ l) (r .spelled);
-        follow = may-follow s x (r .entries) a (r .follow);
-        few = rw (sym (as-many picks links earlier x (r .entries))) (r .few);
+        follow = may-follow s x (r .acts) a (r .follow);
+        few = rw (sym (as-many picks links earlier x (r .acts))) (r .few);
       }
   step more ih at picks links earlier s (at-end d q) =
       let e : at + 1 ≡ end = cc in
       record {
-        entries = [];
+        acts = [];
         spelled = d ∙ ap (λ (l : List ℕ). 0x45 ∷ l) (drop-of-length-le bytes {i = at + 1} (omega arith));
         follow = unfold Follow in tt;
         few = unfold befores in omega (arith, s .few);
@@ -66,11 +66,11 @@ module _ (bytes : List ℕ) (n limit m : ℕ) (ps : List (List ℕ)) (end : ℕ)
 -- ---- what is spelled is read
 
 -- the picks are as what stands before them says
-record As (befores : List (List Entry)) (picks : List (List ℕ)) : Type 0 where
+record As (befores : List (List Act)) (picks : List (List ℕ)) : Type 0 where
   many : length picks ≡ length befores
   each : (k : ℕ) → k < length befores → (u v : ℕ) → link (getD picks k []) u v ≡ isOpen (getD befores k []) u v
 
-as-more : {bs : List (List Entry)} {ps : List (List ℕ)} {b : List Entry} {p : List ℕ} → ((u v : ℕ) → link p u v ≡ isOpen b u v) → As bs ps
+as-more : {bs : List (List Act)} {ps : List (List ℕ)} {b : List Act} {p : List ℕ} → ((u v : ℕ) → link p u v ≡ isOpen b u v) → As bs ps
     → As (b ∷ bs) (p ∷ ps)
 as-more {bs} {ps} {b} {p} h a = record { many = ap suc (a .many); each = by }
   where
@@ -79,7 +79,7 @@ as-more {bs} {ps} {b} {p} h a = record { many = ap suc (a .many); each = by }
     by (suc k) l = a .each k (le-of-suc-le-suc l)
 
 -- the reading, with the picks that are to come
-record Ends (bytes : List ℕ) (n : ℕ) (picks : List (List ℕ)) (befores : List (List Entry)) (o : Content) : Type 0 where
+record Ends (bytes : List ℕ) (n : ℕ) (picks : List (List ℕ)) (befores : List (List Act)) (o : Content) : Type 0 where
   come : List (List ℕ)
   as-told : As befores come
   ends : o ≡ ended n (picks ++ come) (length bytes)
@@ -88,23 +88,23 @@ module _ (bytes : List ℕ) (n limit : ℕ) where
   abbrev all : List (List ℕ) → Content
   all picks = ended n picks (length bytes)
 
-  gathered : {earlier : List Entry} {picks : List (List ℕ)} {links : List ℕ} {o : Content} → Now n limit earlier picks links → (x : Entry) (xs : List Entry)
+  gathered : {earlier : List Act} {picks : List (List ℕ)} {links : List ℕ} {o : Content} → Now n limit earlier picks links → (x : Act) (xs : List Act)
       → Ends bytes n (taking picks links x) (befores (x ∷ earlier) xs) o → Ends bytes n picks (befores earlier (x ∷ xs)) o
   unfolding befores
   gathered s (sets x a b) xs r = r
   gathered {picks = picks} {links = links} s pick xs r =
       record { come = links ∷ r .come; as-told = as-more (s .each) (r .as-told); ends = r .ends ∙ ap all (append-assoc picks (links ∷ []) (r .come)) }
 
-  -- the bytes behind an entry
-  behind : (at : ℕ) (x : Entry) (rest : List ℕ) → drop at bytes ≡ spell x ++ rest → drop (at + length (spell x)) bytes ≡ rest
+  -- the bytes behind an act
+  behind : (at : ℕ) (x : Act) (rest : List ℕ) → drop at bytes ≡ spell x ++ rest → drop (at + length (spell x)) bytes ≡ rest
   behind at x rest e = sym (drop-drop (length (spell x)) at bytes) ∙ ap (drop (length (spell x))) e ∙ drop-at (spell x) rest (length (spell x)) refl
 
-  -- an entry has a byte
-  some : (x : Entry) → 1 ≤ length (spell x)
+  -- an act has a byte
+  some : (x : Act) → 1 ≤ length (spell x)
   some (sets x a b) = omega arith
   some pick = omega arith
 
-  read-from : (xs earlier : List Entry) (turns at : ℕ) (picks : List (List ℕ)) (links : List ℕ) → Now n limit earlier picks links
+  read-from : (xs earlier : List Act) (turns at : ℕ) (picks : List (List ℕ)) (links : List ℕ) → Now n limit earlier picks links
       → drop at bytes ≡ spellAll xs → Follow n earlier xs → length picks + length (befores earlier xs) ≤ limit → length (spellAll xs) ≤ turns
       → Ends bytes n picks (befores earlier xs) (commands bytes n limit turns at picks links)
   unfolding spellAll
@@ -123,7 +123,7 @@ module _ (bytes : List ℕ) (n limit : ℕ) where
       let q = rw (sym (as-many picks links earlier x xs)) at h in
       let r = read-from xs (x ∷ earlier) turns (at + length (spell x)) (taking picks links x) (after links x) (now-on s x m)
       (behind at x (spellAll xs) e) g q (omega (arith, some x, simp length-append at t)) in
-      gathered s x xs (rw (sym (entry-turn bytes n limit turns at picks links x (spellAll xs) e m)) at r)
+      gathered s x xs (rw (sym (act-turn bytes n limit turns at picks links x (spellAll xs) e m)) at r)
 
 -- ---- the file
 
@@ -138,7 +138,7 @@ module _ (limit : ℕ) (bytes out : List ℕ) where
         limit-low = f .head .some;
         limit-high = f .head .few;
         n = m;
-        entries = r .entries;
+        acts = r .acts;
         spelled = head-back (f .head) ∙ ap (λ (l : List ℕ). 0x42 ∷ m ∷ l) (r .spelled);
         boards-low = f .head .low;
         boards-high = f .head .high;
@@ -147,11 +147,11 @@ module _ (limit : ℕ) (bytes out : List ℕ) where
         few = omega (arith, r .few);
       }
 
-  read-whole : (r : Reads limit (length out) bytes) → Ends bytes (r .n) [] (befores [] (r .entries)) (readFile limit (length out) bytes)
+  read-whole : (r : Reads limit (length out) bytes) → Ends bytes (r .n) [] (befores [] (r .acts)) (readFile limit (length out) bytes)
   unfolding readFile spellFile
   read-whole r =
       let n = r .n in
-      let xs = r .entries in
+      let xs = r .acts in
       let l : length bytes ≡ suc (suc (length (spellAll xs))) = ap length (r .spelled) in
       let k = head-turn limit (length out) bytes n (spellAll xs) (r .spelled) (r .limit-low) (r .limit-high) (r .boards-low) (r .boards-high) (r .room-for) in
       let e = read-from bytes n limit xs [] (length bytes) 2 [] (zeros n) (now-start n limit) (ap (drop 2) (r .spelled)) (r .follow)
@@ -167,9 +167,9 @@ reads-exactly limit bytes out =
     by (ended m ps end) i j = spelled limit bytes out m ps end i
     by (refused r) i j = absurd (number-positive r j)
 
-pub reads-what-is-told : (limit : ℕ) (bytes out : List ℕ) (r : Reads limit (length out) bytes) → Told limit bytes out (r .n) (r .entries)
+pub reads-as-written : (limit : ℕ) (bytes out : List ℕ) (r : Reads limit (length out) bytes) → AsWritten limit bytes out (r .n) (r .acts)
 unfolding readSays lentPick
-reads-what-is-told limit bytes out r =
+reads-as-written limit bytes out r =
     let e = read-whole limit bytes out r in
     record {
       answer = ap fileSays (e .ends) ∙ ap (read 0 (r .n)) (e .as-told .many);

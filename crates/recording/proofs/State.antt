@@ -1,4 +1,4 @@
--- The reader's state and the entries read so far, one entry after the other. Assumes nothing.
+-- The reader's state and the acts read so far, one act after the other. Assumes nothing.
 use mathlib.Core.Path.{_≡_, refl, sym, ap, _∙_}
 use mathlib.Core.Bool.{Bool, true, false, not, _&&_}
 use mathlib.Core.List.{List, [], _∷_}
@@ -10,12 +10,12 @@ use Rattle.model.specs.Recording.{link, Clean}
 use Rattle.model.proofs.Logic.{F→≡}
 use Rattle.lists.specs.Tab.{zeros}
 use Rattle.links.proofs.Bits.{zeros-none, zeros-clean}
-use Rattle.recording.specs.Grammar.{Entry, sets, pick, choose, isOpen, befores, Follow}
+use Rattle.recording.specs.Grammar.{Act, sets, pick, choose, isOpen, befores, Follow}
 use Rattle.recording.proofs.Bits.{clean-flip, link-flipped}
 use Rattle.recording.proofs.Turn.{May, after, taking}
 
--- the links are as the entries have set them, and the picks are within the limit
-pub record Now (n limit : ℕ) (earlier : List Entry) (picks : List (List ℕ)) (links : List ℕ) : Type 0 where
+-- the links are as the acts have set them, and the picks are within the limit
+pub record Now (n limit : ℕ) (earlier : List Act) (picks : List (List ℕ)) (links : List ℕ) : Type 0 where
   pub clean : Clean n links
   pub each : (u v : ℕ) → link links u v ≡ isOpen earlier u v
   pub few : length picks ≤ limit
@@ -30,8 +30,8 @@ set-so true true y z e = ap not e
 set-so true false y z e = ap not e
 set-so false x y z e = refl
 
-module _ {n limit : ℕ} {earlier : List Entry} {picks : List (List ℕ)} {links : List ℕ} (s : Now n limit earlier picks links) where
-  pub now-on : (x : Entry) → May n limit (length picks) links x → Now n limit (x ∷ earlier) (taking picks links x) (after links x)
+module _ {n limit : ℕ} {earlier : List Act} {picks : List (List ℕ)} {links : List ℕ} (s : Now n limit earlier picks links) where
+  pub now-on : (x : Act) → May n limit (length picks) links x → Now n limit (x ∷ earlier) (taking picks links x) (after links x)
   unfolding isOpen
   now-on (sets x a b) m =
       record {
@@ -43,14 +43,14 @@ module _ {n limit : ℕ} {earlier : List Entry} {picks : List (List ℕ)} {links
       }
   now-on pick m = record { clean = s .clean; each = s .each; few = rw length-append (omega arith) }
 
-  -- an entry may follow just where the reader goes past it
-  pub may-follow : (x : Entry) (xs : List Entry) → May n limit (length picks) links x → Follow n (x ∷ earlier) xs → Follow n earlier (x ∷ xs)
+  -- an act may follow just where the reader goes past it
+  pub may-follow : (x : Act) (xs : List Act) → May n limit (length picks) links x → Follow n (x ∷ earlier) xs → Follow n earlier (x ∷ xs)
   unfolding Follow
   may-follow (sets x a b) xs m f =
       (record { apart = m .0 .apart; from = m .0 .from; to = m .0 .to; changes = sym (s .each a b) ∙ m .1 }, f)
   may-follow pick xs m f = f
 
-  pub follow-may : (x : Entry) (xs : List Entry) → Follow n earlier (x ∷ xs) → length picks + length (befores earlier (x ∷ xs)) ≤ limit
+  pub follow-may : (x : Act) (xs : List Act) → Follow n earlier (x ∷ xs) → length picks + length (befores earlier (x ∷ xs)) ≤ limit
       → May n limit (length picks) links x × Follow n (x ∷ earlier) xs
   unfolding Follow befores
   follow-may (sets x a b) xs f h =
@@ -58,7 +58,7 @@ module _ {n limit : ℕ} {earlier : List Entry} {picks : List (List ℕ)} {links
   follow-may pick xs f h = (omega arith, f)
 
 -- the picks so far and those to come are together as many
-pub as-many : (picks : List (List ℕ)) (links : List ℕ) (earlier : List Entry) (x : Entry) (xs : List Entry)
+pub as-many : (picks : List (List ℕ)) (links : List ℕ) (earlier : List Act) (x : Act) (xs : List Act)
     → length (taking picks links x) + length (befores (x ∷ earlier) xs) ≡ length picks + length (befores earlier (x ∷ xs))
 unfolding befores
 as-many picks links earlier (sets x a b) xs = refl

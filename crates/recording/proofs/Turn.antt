@@ -1,4 +1,4 @@
--- One turn of the reader, and the entry that stands there: what the bytes make of the turn, and what the turn tells of the bytes. Only here do
+-- One turn of the reader, and the act that stands there: what the bytes make of the turn, and what the turn tells of the bytes. Only here do
 -- the proofs about the grammar look at a command. Assumes nothing.
 use mathlib.Core.Path.{_≡_, refl, sym, ap, ap₂, _∙_}
 use mathlib.Core.Bool.{Bool, true, false, not, true≢false}
@@ -21,19 +21,19 @@ use Rattle.commands.proofs.Admit.{no, Linkable, linkable, past-as, stood, Heade
 use Rattle.commands.proofs.Table.{Every, by-shape}
 use Rattle.commands.proofs.Inverse.{command-here}
 use Rattle.recording.specs.Format.{Content, ended, refused, flipped, follow, commands, body, recordingAt}
-use Rattle.recording.specs.Grammar.{Entry, sets, pick, code, spell}
+use Rattle.recording.specs.Grammar.{Act, sets, pick, code, spell}
 
--- ---- what an entry asks of the reader's state, and makes of it
+-- ---- what an act asks of the reader's state, and makes of it
 
-abbrev pub May : ℕ → ℕ → ℕ → List ℕ → Entry → Type 0
+abbrev pub May : ℕ → ℕ → ℕ → List ℕ → Act → Type 0
 May n limit count links (sets x a b) = Linkable n a b × (link links a b ≡ not x)
 May n limit count links pick = count < limit
 
-abbrev pub after : List ℕ → Entry → List ℕ
+abbrev pub after : List ℕ → Act → List ℕ
 after links (sets x a b) = flipped links a b
 after links pick = links
 
-abbrev pub taking : List (List ℕ) → List ℕ → Entry → List (List ℕ)
+abbrev pub taking : List (List ℕ) → List ℕ → Act → List (List ℕ)
 taking picks links (sets x a b) = picks
 taking picks links pick = picks ++ (links ∷ [])
 
@@ -57,14 +57,14 @@ module _ (bytes : List ℕ) (at c : ℕ) (rest : List ℕ) (e : drop at bytes �
       ap₂ (commandAt first) whole place ∙ command-here first (take at bytes) rest c k m w h
 
 module _ (bytes : List ℕ) (n limit turns at : ℕ) (picks : List (List ℕ)) (links : List ℕ) where
-  pub entry-turn : (x : Entry) (rest : List ℕ) → drop at bytes ≡ spell x ++ rest → May n limit (length picks) links x
+  pub act-turn : (x : Act) (rest : List ℕ) → drop at bytes ≡ spell x ++ rest → May n limit (length picks) links x
       → commands bytes n limit (suc turns) at picks links ≡ commands bytes n limit turns (at + length (spell x)) (taking picks links x) (after links x)
   unfolding commands next refuse commandOf widthOf lookup
-  entry-turn (sets true a b) rest e m =
+  act-turn (sets true a b) rest e m =
       simp (here bytes at 0x4F (a ∷ b ∷ rest) e false 2 refl refl (omega arith), able n a b (m .0), changes true (link links a b) (m .1))
-  entry-turn (sets false a b) rest e m =
+  act-turn (sets false a b) rest e m =
       simp (here bytes at 0x53 (a ∷ b ∷ rest) e false 2 refl refl (omega arith), able n a b (m .0), changes false (link links a b) (m .1))
-  entry-turn pick rest e m = simp (here bytes at 0x50 rest e false 0 refl refl (omega arith), lt-leb limit (length picks) m)
+  act-turn pick rest e m = simp (here bytes at 0x50 rest e false 0 refl refl (omega arith), lt-leb limit (length picks) m)
 
   pub end-turn : (rest : List ℕ) → drop at bytes ≡ 0x45 ∷ rest → commands bytes n limit (suc turns) at picks links ≡ ended n picks (at + 1)
   unfolding commands next refuse commandOf widthOf lookup
@@ -93,9 +93,9 @@ front bytes i j h e = rw (sym e) (drop-cons bytes i 0 h)
 abbrev pub More : Type 0
 More = ℕ → List (List ℕ) → List ℕ → Content
 
--- where a turn goes that is not refused: at an entry it goes on, at the 45 it ends
+-- where a turn goes that is not refused: at an act it goes on, at the 45 it ends
 pub data Turned (bytes : List ℕ) (n limit at : ℕ) (picks : List (List ℕ)) (links : List ℕ) (more : More) (o : Content) : Type 0 where
-  at-entry : (x : Entry) → drop at bytes ≡ spell x ++ drop (at + length (spell x)) bytes → May n limit (length picks) links x
+  at-act : (x : Act) → drop at bytes ≡ spell x ++ drop (at + length (spell x)) bytes → May n limit (length picks) links x
       → more (at + length (spell x)) (taking picks links x) (after links x) ≡ o → Turned bytes n limit at picks links more o
   at-end : drop at bytes ≡ 0x45 ∷ drop (at + 1) bytes → ended n picks (at + 1) ≡ o → Turned bytes n limit at picks links more o
 
@@ -131,7 +131,7 @@ module _ (bytes : List ℕ) (n limit at : ℕ) (picks : List (List ℕ)) (links 
         front bytes (at + 1) (at + 2) (omega arith) (omega arith),
         front bytes (at + 2) (at + 3) (omega arith) (omega arith),
       ) in
-      at-entry (sets x a b) d (linkable n a b (p .0), changed x (link links a b) (r .0)) (r .1)
+      at-act (sets x a b) d (linkable n a b (p .0), changed x (link links a b) (r .0)) (r .1)
     where
       changed : (x y : Bool) → unchanged x y ≡ false → y ≡ not x
       changed true y e = e
@@ -141,7 +141,7 @@ module _ (bytes : List ℕ) (n limit at : ℕ) (picks : List (List ℕ)) (links 
   unfolding commandOf
   by-pick e g h q =
       let p = past-as Goes never _ _ _ q in
-      at-entry pick (rw e (front bytes at (at + 1) (omega arith) (omega arith))) (leb-false limit (length picks) (p .0)) (p .1)
+      at-act pick (rw e (front bytes at (at + 1) (omega arith) (omega arith))) (leb-false limit (length picks) (p .0)) (p .1)
 
   by-end : Byte 0x45 0
   unfolding commandOf
