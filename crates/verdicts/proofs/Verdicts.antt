@@ -85,10 +85,6 @@ third-lent n limit a =
 pub links-room : (measure n limit words : ℕ) → measure ≡ 2 → needed measure n limit ≤ words → (limit + 4) * n ≤ words
 links-room measure n limit words m h = subst (λ (x : ℕ). (limit + 4) * x ≤ words) (width-links measure n (λ x. omega arith)) h
 
--- the footprint of measure 2 fills a part
-pub footprint-fills : (measure n e words : ℕ) → measure ≡ 2 → e ≡ widthOf measure n → n ≡ words → e ≡ words
-footprint-fills measure n e words m q l = q ∙ width-links measure n (λ x. omega arith) ∙ l
-
 pub not-short : (x y : ℕ) → ltb x y ≡ false → y ≤ x
 not-short x y e = let g : x < y → ⊥ = λ h. tr e (lt→ltb x y h) in omega arith
 
