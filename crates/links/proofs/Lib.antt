@@ -1,4 +1,5 @@
 -- Laws of the tables of links.
 pub mod Bits
+pub mod First
 pub mod Ways
 pub mod Tells

@@ -1,6 +1,8 @@
 // Tables of links between n boards, 2 to 32: n words, bit v of word u for the pair u, v. Words are taken as they are found.
 ghost use mathlib.Core.Path.{_≡_};
+ghost use mathlib.Core.Logic.{_≢_};
 ghost use Prim.Native.Nat.{_≤_, _<_};
+ghost use lib.Dec.{T};
 ghost use lib.ListN.{length};
 ghost use Rattle.model.specs.Recording.{bit};
 ghost use Rattle.lists.specs.Tab.{tab};
@@ -23,6 +25,14 @@ pub fn cleared(x: u32, b: Board) -> u32
 {
     let v = b.0;
     x & !(1u32 << v)
+}
+
+// The first board of a set that has one.
+pub fn first_of(set: u32) -> usize
+    requires { ⌜ set ≢ 0 ⌝ }
+    ensures { λ r. ⌜ (r < 32) × T (bit set r) ⌝ }
+{
+    u32::trailing_zeros(set) as usize
 }
 
 // Every row of out becomes the same boards, but for its own bit.

@@ -1,6 +1,6 @@
 -- The searches from board 0, on the words as they are found: what they find, and that from every board links lead to every other exactly when
 -- they lead from board 0 to all and from all to board 0. Assumes nothing.
-use mathlib.Core.Path.{_≡_, sym, ap, _∙_, subst}
+use mathlib.Core.Path.{_≡_, refl, sym, ap, _∙_, subst}
 use mathlib.Core.Logic.{_≢_, _⊎_, inl, inr, ⊎-elim}
 use mathlib.Core.Bool.{Bool, false, true, _||_, _&&_, not}
 use mathlib.Core.List.{List}
@@ -8,20 +8,20 @@ use Prim.Native.Nat.{ℕ, zero, suc, _+_, _-_, _/_, _%_, _^_, _≤_, _<_}
 use native.Mathlib.Nat.{add-zero, add-suc, not-suc-le-zero, le-of-suc-le-suc, eq-or-lt-of-le, lt-of-lt-of-le, le-of-lt, le-refl, le-trans}
 use native.Mathlib.Numerals.{add-one}
 use native.Mathlib.Omega.{arith}
-use lib.Bits.{bitAnd, bitOr}
+use lib.Bits.{bitAnd, bitOr, and-le-l}
 use lib.Dec.{T, eqb, eqb→eq, eqb-refl}
 use lib.ListN.{getD}
-use lib.Pow.{pow-pos}
+use lib.Pow.{pow-pos, pow-mono, ones-lt}
 use Rattle.model.specs.Recording.{bit, link}
-use Rattle.model.proofs.Logic.{tr, bool-ext, or-l, or-r, or-cases, and-both, and-l, and-r, not-in, ne-eqb, eq-or, eq-refl}
+use Rattle.model.proofs.Logic.{tr, bool-ext, or-l, or-r, or-cases, and-both, and-l, and-r, not-in, not-out, eqb-ne, ne-eqb, eq-or, eq-refl, le-or-lt}
 use Rattle.model.proofs.Bits.{bit-zero, bit-suc, bit-high, bit-or, bit-and, bit-one}
-use Rattle.model.proofs.Ones.{all-in, all-out}
+use Rattle.model.proofs.Ones.{bit-low, all-in, all-out}
 use Rattle.lists.specs.Tab.{kept}
 use Rattle.lists.proofs.Tab.{every-in, every-out}
-use Rattle.links.specs.Tables.{within, pairFull, rowFull, full}
-use Rattle.links.proofs.Bits.{bit-kept}
+use Rattle.links.specs.Tables.{without, within, pairFull, rowFull, full}
+use Rattle.links.proofs.Bits.{bit-kept, bit-without, without-lt}
 use Rattle.links.proofs.Ways.{Way, one, more, snoc, Short, last-link, within-way, way-short, Led, onward}
-use Rattle.searches.specs.Search.{spread, joined, collect, turned, sidePair, sideFull}
+use Rattle.searches.specs.Search.{leading, collect, sidePair, sideFull}
 
 -- v is board 0, or links over boards below n lead from there to v, or with `back` from v to there
 abbrev Found : Bool → ℕ → List ℕ → ℕ → Type 0
@@ -30,50 +30,9 @@ Found true n t v = (_≡_ {A = ℕ} 0 v) ⊎ ((v < n) × Led t n v 0)
 
 -- ---- onward
 
-spread-step : (t : List ℕ) (s k v : ℕ) → bit (spread t s (suc k)) v ≡ bit (spread t s k) v || (bit (spread t s k) k && link t k v)
-unfolding spread link
-spread-step t s k v = bit-or x (kept (bit x k) (getD t k 0)) v ∙ ap (λ (b : Bool). bit x v || b) (bit-kept (bit x k) (getD t k 0) v)
-  where
-    x : ℕ
-    x = spread t s k
-
--- a turn of the loop
-pub spread-next : (t : List ℕ) (s k : ℕ) → spread t s (k + 1) ≡ bitOr (spread t s k) (kept (bit (spread t s k) k) (getD t k 0))
-unfolding spread
-spread-next t s k = rw add-one
-
-spread-grow : (t : List ℕ) (s k v : ℕ) → T (bit s v) → T (bit (spread t s k) v)
-unfolding spread
-spread-grow t s zero v m = m
-spread-grow t s (suc k) v m = tr (sym (spread-step t s k v)) (or-l (bit (spread t s k) v) (bit (spread t s k) k && link t k v) (spread-grow t s k v m))
-
--- a link from a board of s is followed
-spread-link : (t : List ℕ) (s n w v : ℕ) → w < n → T (bit s w) → T (link t w v) → T (bit (spread t s n) v)
-spread-link t s zero w v h m l = absurd (not-suc-le-zero h)
-spread-link t s (suc n) w v h m l =
-    tr (sym (spread-step t s n v))
-    (⊎-elim (λ (e : w ≡ n). or-r (bit x v) (bit x n && link t n v) (and-both (bit x n) (link t n v)
-    (spread-grow t s n n (subst (λ (y : ℕ). T (bit s y)) e m)) (subst (λ (y : ℕ). T (link t y v)) e l)))
-    (λ (q : w < n). or-l (bit x v) (bit x n && link t n v) (spread-link t s n w v q m l)) (eq-or-lt-of-le (le-of-suc-le-suc h)))
-  where
-    x : ℕ
-    x = spread t s n
-
 from-next : {n w v : ℕ} {t : List ℕ} → w < n → Found false n t w → T (link t w v) → Found false n t v
 from-next {v = v} {t = t} h (inl e) l = inr (1, one (subst (λ (x : ℕ). T (link t x v)) (sym e) l))
 from-next h (inr p) l = inr (suc (p .0), snoc (p .1) h l)
-
--- what is found is there
-spread-from : (n : ℕ) (t : List ℕ) (s k : ℕ) → k ≤ n → ((v : ℕ) → T (bit s v) → Found false n t v) → (v : ℕ) → T (bit (spread t s k) v) → Found false n t v
-unfolding spread
-spread-from n t s zero h f v m = f v m
-spread-from n t s (suc k) h f v m =
-    let ih = spread-from n t s k (le-of-lt h) f in
-    ⊎-elim (ih v) (λ (b : T (bit x k && link t k v)). from-next h (ih k (and-l (bit x k) (link t k v) b)) (and-r (bit x k) (link t k v) b))
-    (or-cases (bit x v) (bit x k && link t k v) (tr (spread-step t s k v) m))
-  where
-    x : ℕ
-    x = spread t s k
 
 -- ---- backward
 
@@ -104,10 +63,10 @@ meets-out row s m =
     let b = tr (bit-and row s (q .0)) (q .1) in
     (q .0, and-l (bit row (q .0)) (bit s (q .0)) b, and-r (bit row (q .0)) (bit s (q .0)) b)
 
-collect-step : (t : List ℕ) (s k u : ℕ) → bit (collect t s (suc k)) u ≡ bit (collect t s k) u || (meets (getD t k 0) (collect t s k) && eqb k u)
-unfolding collect joined meets
+collect-step : (t : List ℕ) (s k u : ℕ) → bit (collect t s (suc k)) u ≡ bit (collect t s k) u || (meets (getD t k 0) s && eqb k u)
+unfolding collect leading meets
 collect-step t s k u =
-    bit-or x (kept (meets row x) (2 ^ k)) u ∙ ap (λ (b : Bool). bit x u || b) (bit-kept (meets row x) (2 ^ k) u ∙ ap (λ (b : Bool). meets row x && b) (bit-one k u))
+    bit-or x (kept (meets row s) (2 ^ k)) u ∙ ap (λ (b : Bool). bit x u || b) (bit-kept (meets row s) (2 ^ k) u ∙ ap (λ (b : Bool). meets row s && b) (bit-one k u))
   where
     x : ℕ
     x = collect t s k
@@ -116,14 +75,14 @@ collect-step t s k u =
     row = getD t k 0
 
 -- a turn of the loop
-pub collect-next : (t : List ℕ) (s k : ℕ) → collect t s (k + 1) ≡ joined (collect t s k) (getD t k 0) k
+pub collect-next : (t : List ℕ) (s k : ℕ) → collect t s (k + 1) ≡ bitOr (collect t s k) (leading s (getD t k 0) k)
 unfolding collect
 collect-next t s k = rw add-one
 
 collect-grow : (t : List ℕ) (s k u : ℕ) → T (bit s u) → T (bit (collect t s k) u)
 unfolding collect
 collect-grow t s zero u m = m
-collect-grow t s (suc k) u m = tr (sym (collect-step t s k u)) (or-l (bit (collect t s k) u) (meets (getD t k 0) (collect t s k) && eqb k u) (collect-grow t s k u m))
+collect-grow t s (suc k) u m = tr (sym (collect-step t s k u)) (or-l (bit (collect t s k) u) (meets (getD t k 0) s && eqb k u) (collect-grow t s k u m))
 
 -- a link to a board of s is followed
 collect-link : (t : List ℕ) (s n w v : ℕ) → w < n → T (link t w v) → T (bit s v) → T (bit (collect t s n) w)
@@ -131,9 +90,9 @@ unfolding link
 collect-link t s zero w v h l m = absurd (not-suc-le-zero h)
 collect-link t s (suc n) w v h l m =
     tr (sym (collect-step t s n w))
-    (⊎-elim (λ (e : w ≡ n). or-r (bit x w) (meets (getD t n 0) x && eqb n w) (and-both (meets (getD t n 0) x) (eqb n w)
-    (meets-in (getD t n 0) x v (subst (λ (y : ℕ). T (bit (getD t y 0) v)) e l) (collect-grow t s n v m)) (eq-refl (sym e))))
-    (λ (q : w < n). or-l (bit x w) (meets (getD t n 0) x && eqb n w) (collect-link t s n w v q l m)) (eq-or-lt-of-le (le-of-suc-le-suc h)))
+    (⊎-elim (λ (e : w ≡ n). or-r (bit x w) (meets (getD t n 0) s && eqb n w) (and-both (meets (getD t n 0) s) (eqb n w)
+    (meets-in (getD t n 0) s v (subst (λ (y : ℕ). T (bit (getD t y 0) v)) e l) m) (eq-refl (sym e))))
+    (λ (q : w < n). or-l (bit x w) (meets (getD t n 0) s && eqb n w) (collect-link t s n w v q l m)) (eq-or-lt-of-le (le-of-suc-le-suc h)))
   where
     x : ℕ
     x = collect t s n
@@ -146,15 +105,11 @@ collect-to : (n : ℕ) (t : List ℕ) (s k : ℕ) → k ≤ n → ((u : ℕ) →
 unfolding collect link
 collect-to n t s zero h f u m = f u m
 collect-to n t s (suc k) h f u m =
-    let ih = collect-to n t s k (le-of-lt h) f in
-    ⊎-elim (ih u) (λ (b : T (meets row x && eqb k u)).
-    let q = meets-out row x (and-l (meets row x) (eqb k u) b) in
-    subst (Found true n t) (eqb→eq k u (and-r (meets row x) (eqb k u) b)) (to-next h (q .1) (ih (q .0) (q .2))))
-    (or-cases (bit x u) (meets row x && eqb k u) (tr (collect-step t s k u) m))
+    ⊎-elim (collect-to n t s k (le-of-lt h) f u) (λ (b : T (meets row s && eqb k u)).
+    let q = meets-out row s (and-l (meets row s) (eqb k u) b) in
+    subst (Found true n t) (eqb→eq k u (and-r (meets row s) (eqb k u) b)) (to-next h (q .1) (f (q .0) (q .2))))
+    (or-cases (bit (collect t s k) u) (meets row s && eqb k u) (tr (collect-step t s k u) m))
   where
-    x : ℕ
-    x = collect t s k
-
     row : ℕ
     row = getD t k 0
 
@@ -185,15 +140,9 @@ pub seen-start : (back : Bool) (n : ℕ) (t : List ℕ) → Seen back n t 1 0
 seen-start false n t = record { first = zero-first; sound = λ v m. inl (first-only v m); far = λ c v h l p. absurd (none p l) }
 seen-start true n t = record { first = zero-first; sound = λ v m. inl (first-only v m); far = λ c v h l p. absurd (none p l) }
 
-pub seen-next : {back : Bool} {n s k : ℕ} {t : List ℕ} → Seen back n t s k → Seen back n t (turned back t s n) (k + 1)
-seen-next {back = false} {n} {s} {k} {t} m = record {
-  first = spread-grow t s n 0 (m .first);
-  sound = spread-from n t s n (le-refl n) (m .sound);
-  far = λ c v h l p. let q : c ≤ suc k = omega arith in
-      ⊎-elim (λ (a : T (link t 0 v)). spread-link t s n 0 v (omega arith) (m .first) a)
-      (λ (a : (w : ℕ) × (w < n) × Short n k t 0 w × T (link t w v)). spread-link t s n (a .0) v (a .1) (m .far (a .2 .0) (a .0) (a .1) (a .2 .1) (a .2 .2)) (a .3)) (last-link q p);
-}
-seen-next {back = true} {n} {s} {k} {t} m = record {
+-- a turn backward
+pub seen-next : {n s k : ℕ} {t : List ℕ} → Seen true n t s k → Seen true n t (collect t s n) (k + 1)
+seen-next {n} {s} {k} {t} m = record {
   first = collect-grow t s n 0 (m .first);
   sound = collect-to n t s n (le-refl n) (m .sound);
   far = λ c u h l p. let q : c ≤ suc k = omega arith in go h q p;
@@ -204,9 +153,86 @@ seen-next {back = true} {n} {s} {k} {t} m = record {
     go {u = u} h q (more {c = c} {w = w} l j p) = collect-link t s n u w h l (m .far c w j (le-of-suc-le-suc q) p)
 
 -- a search that finds no more in a turn finds no more at all
-pub seen-stays : {back : Bool} {n s k : ℕ} {t : List ℕ} → turned back t s n ≡ s → Seen back n t s k → (j : ℕ) → Seen back n t s (k + j)
+pub seen-stays : {n s k : ℕ} {t : List ℕ} → collect t s n ≡ s → Seen true n t s k → (j : ℕ) → Seen true n t s (k + j)
 seen-stays e m zero = rw add-zero m
 seen-stays e m (suc j) = rw add-suc (rw (e, add-one) at (seen-next (seen-stays e m j)))
+
+-- The invariant of the search onward: s has board 0, boards of `Found` alone, and the links of each board that is not in `rest`.
+pub record Gone (n : ℕ) (t : List ℕ) (s rest : ℕ) : Type 0 where
+  first : T (bit s 0)
+  sound : (v : ℕ) → T (bit s v) → Found false n t v
+  few : rest < 2 ^ n
+  done : (w v : ℕ) → w < n → T (not (bit rest w)) → T (link t w v) → T (bit s v)
+
+pub gone-start : (n : ℕ) (t : List ℕ) → Gone n t 1 (2 ^ n - 1)
+gone-start n t = record {
+  first = zero-first;
+  sound = λ v m. inl (first-only v m);
+  few = ones-lt n;
+  done = λ w v h m l. absurd (not-out (bit (2 ^ n - 1) w) m (bit-low n w h));
+}
+
+-- a board of `rest` is below n
+rest-below : {n w : ℕ} (rest : ℕ) → rest < 2 ^ n → T (bit rest w) → w < n
+rest-below {n} {w} rest h m =
+    ⊎-elim (λ (l : n ≤ w). absurd (tr (bit-high rest w (lt-of-lt-of-le h (pow-mono l))) m)) (λ (l : w < n). l) (le-or-lt n w)
+
+pub gone-below : {n s rest : ℕ} {t : List ℕ} (w : ℕ) → Gone n t s rest → T (bit (bitAnd s rest) w) → w < n
+gone-below {s = s} {rest = rest} w m b = rest-below rest (m .few) (and-r (bit s w) (bit rest w) (tr (bit-and s rest w) b))
+
+-- the links of board w are followed
+pub gone-next : {n s rest : ℕ} {t : List ℕ} (w : ℕ) → n ≤ 32 → Gone n t s rest → T (bit (bitAnd s rest) w) → Gone n t (bitOr s (getD t w 0)) (without rest w)
+unfolding link
+gone-next {n} {s} {rest} {t} w n32 m b = record {
+  first = grow 0 (m .first);
+  sound = λ v k. ⊎-elim (m .sound v) (λ (l : T (bit (getD t w 0) v)). from-next below (m .sound w (both .0)) l) (or-cases (bit s v) (bit (getD t w 0) v) (tr (bit-or s (getD t w 0) v) k));
+  few = without-lt n rest w (m .few);
+  done = λ x v h k l. ⊎-elim (λ (e : w ≡ x). tr (sym (bit-or s (getD t w 0) v)) (or-r (bit s v) (bit (getD t w 0) v) (subst (λ (y : ℕ). T (bit (getD t y 0) v)) (sym e) l)))
+      (λ (ne : w ≢ x). grow v (m .done x v h (still x h ne k) l)) (eq-or w x);
+}
+  where
+    both : T (bit s w) × T (bit rest w)
+    both = let q = tr (bit-and s rest w) b in (and-l (bit s w) (bit rest w) q, and-r (bit s w) (bit rest w) q)
+
+    below : w < n
+    below = gone-below w m b
+
+    grow : (v : ℕ) → T (bit s v) → T (bit (bitOr s (getD t w 0)) v)
+    grow v k = tr (sym (bit-or s (getD t w 0) v)) (or-l (bit s v) (bit (getD t w 0) v) k)
+
+    still : (x : ℕ) → x < n → w ≢ x → T (not (bit (without rest w) x)) → T (not (bit rest x))
+    still x h ne k =
+        not-in (bit rest x) (λ r. not-out (bit (without rest w) x) k (tr (sym (bit-without rest w x (lt-of-lt-of-le below n32) (lt-of-lt-of-le h n32))) (and-both (bit rest x) (not (eqb w x)) r (eqb-ne w x ne))))
+
+-- `rest` becomes less
+pub gone-less : {n s rest : ℕ} {t : List ℕ} (w : ℕ) → n ≤ 32 → Gone n t s rest → T (bit (bitAnd s rest) w) → without rest w < rest
+unfolding without
+gone-less {n} {s} {rest} {t} w n32 m b =
+    ⊎-elim (λ (e : without rest w ≡ rest). absurd (no e)) (λ (l : without rest w < rest). l) (eq-or-lt-of-le (and-le-l rest (2 ^ 32 - 1 - 2 ^ w)))
+  where
+    q : T (bit rest w)
+    q = and-r (bit s w) (bit rest w) (tr (bit-and s rest w) b)
+
+    w32 : w < 32
+    w32 = lt-of-lt-of-le (gone-below w m b) n32
+
+    no : without rest w ≡ rest → ⊥
+    no e = ne-eqb w w (and-r (bit rest w) (not (eqb w w)) (tr (bit-without rest w w w32 w32) (subst (λ (x : ℕ). T (bit x w)) (sym e) q))) refl
+
+-- what was found so far
+pub gone-seen : {n s rest : ℕ} {t : List ℕ} → Gone n t s rest → Seen false n t s 0
+gone-seen m = record { first = m .first; sound = m .sound; far = λ c v h l p. absurd (none p l) }
+
+-- the links of all that it has are followed
+pub gone-end : {n s rest : ℕ} {t : List ℕ} → Gone n t s rest → bitAnd s rest ≡ 0 → Seen false n t s 31
+gone-end {n} {s} {rest} {t} m e = record { first = m .first; sound = m .sound; far = λ c v h l p. go (omega arith) (m .first) p }
+  where
+    left : (w : ℕ) → T (bit s w) → T (not (bit rest w))
+    left w k = not-in (bit rest w) (λ r. tr (ap (λ (x : ℕ). bit x w) e ∙ bit-high 0 w (pow-pos w)) (tr (sym (bit-and s rest w)) (and-both (bit s w) (bit rest w) k r)))
+
+    go : {c u v : ℕ} → u < n → T (bit s u) → Way t n c u v → T (bit s v)
+    go {u = u} {v = v} h k (one l) = m .done u v h (left u k) l
+    go {u = u} h k (more {w = w} l j p) = go j (m .done u w h (left u k) l) p
 
 -- ---- what a search tells
 

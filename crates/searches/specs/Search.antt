@@ -5,28 +5,17 @@ use Prim.Native.Nat.{ℕ, zero, suc, _^_}
 use lib.Bits.{bitAnd, bitOr}
 use lib.Dec.{eqb}
 use lib.ListN.{getD}
-use Rattle.model.specs.Recording.{bit}
 use Rattle.lists.specs.Tab.{kept, every}
 use Rattle.links.specs.Tables.{pairFull}
 
--- s, with the row of each of the first k boards that is found by then
-unfoldable pub spread : List ℕ → ℕ → ℕ → ℕ
-spread t s zero = s
-spread t s (suc k) = bitOr (spread t s k) (kept (bit (spread t s k) k) (getD t k 0))
+-- board w, where `row` has a board of s
+unfoldable pub leading : ℕ → ℕ → ℕ → ℕ
+leading s row w = kept (not (eqb (bitAnd row s) 0)) (2 ^ w)
 
--- s, with board w where `row` has a board of s
-unfoldable pub joined : ℕ → ℕ → ℕ → ℕ
-joined s row w = bitOr s (kept (not (eqb (bitAnd row s) 0)) (2 ^ w))
-
--- s, with each of the first k boards whose row has a board that is found by then
+-- s, with each of the first k boards whose row has a board of s
 unfoldable pub collect : List ℕ → ℕ → ℕ → ℕ
 collect t s zero = s
-collect t s (suc k) = joined (collect t s k) (getD t k 0) k
-
--- a turn of a search: onward, or with `back` backward
-abbrev pub turned : Bool → List ℕ → ℕ → ℕ → ℕ
-turned false t s n = spread t s n
-turned true t s n = collect t s n
+collect t s (suc k) = bitOr (collect t s k) (leading s (getD t k 0) k)
 
 -- the pair from board 0 to v is marked, or with `back` the pair from v to board 0
 abbrev pub sidePair : Bool → List ℕ → ℕ → Bool

@@ -1,9 +1,10 @@
 // Whether boards reach each other: the tests of measures 3 and 1 on a table of links between n boards, 2 to 32. Words are taken as they are found.
 ghost use mathlib.Core.Path.{_≡_};
+ghost use mathlib.Core.Bool.{true, false};
 ghost use Prim.Native.Nat.{_-_, _^_, _≤_, _<_};
 ghost use lib.ListN.{length};
 ghost use Rattle.links.specs.Tables.{within, full, connected};
-ghost use Rattle.searches.specs.Search.{spread, joined, collect, turned, sideFull};
+ghost use Rattle.searches.specs.Search.{leading, collect, sideFull};
 use model::Board;
 
 // The word of the bits below n.
@@ -31,60 +32,53 @@ pub fn is_full(t: &[u32], n: usize) -> bool
     true
 }
 
-// ---- a search from board 0, onward and backward
+// ---- searches from board 0, onward and backward
 
-// The boards of seen, and those that their links lead to; further ones too, where the boards come in that order.
-fn onward(t: &[u32], seen: u32, n: usize) -> u32
+// Whether links lead from board 0 to every other. `rest` has the boards whose links were not followed yet; the search ends when it has all
+// boards or has followed the links of all that it has.
+fn reaches_all(t: &[u32], n: usize) -> bool
     requires { ⌜ (n ≤ 32) × (n ≤ length (now t)) ⌝ }
-    ensures { λ r. ⌜ r ≡ spread (now (t .entry)) seen n ⌝ }
+    ensures { λ r. ⌜ r ≡ sideFull false n (within n 31 (now (t .entry))) ⌝ }
 {
-    let mut s = seen;
-    for w in 0..n {
-        s = s | lists::keep(t[w], (s >> w) % 2);
+    let all = low_bits(n);
+    let mut s = 1u32;
+    let mut rest = all;
+    while s & rest != 0 {
+        let w = links::first_of(s & rest);
+        s = s | t[w];
+        if s & all == all {
+            return true;
+        }
+        rest = links::cleared(rest, Board(w));
     }
-    s
+    s & all == all
 }
 
-// The boards of s, and b where its row leads to one of them.
-fn with_board(s: u32, row: u32, b: Board) -> u32
+// Board b, where its row leads to one of s.
+fn board_to(s: u32, row: u32, b: Board) -> u32
     requires { ⌜ b .0 < 32 ⌝ }
-    ensures { λ r. ⌜ r ≡ joined s row (b .0) ⌝ }
+    ensures { λ r. ⌜ r ≡ leading s row (b .0) ⌝ }
 {
-    if row & s == 0 {
-        return s;
-    }
     let w = b.0;
-    s | (1u32 << w)
+    if row & s == 0 { 0 } else { 1u32 << w }
 }
 
-// The boards of seen, and those that lead to them.
+// The boards of seen, and those that a link leads from to one of them.
 fn backward(t: &[u32], seen: u32, n: usize) -> u32
     requires { ⌜ (n ≤ 32) × (n ≤ length (now t)) ⌝ }
     ensures { λ r. ⌜ r ≡ collect (now (t .entry)) seen n ⌝ }
 {
     let mut s = seen;
     for w in 0..n {
-        s = with_board(s, t[w], Board(w));
+        s = s | board_to(seen, t[w], Board(w));
     }
     s
 }
 
-// A turn of a search: onward, or with back backward.
-fn turn(t: &[u32], seen: u32, n: usize, back: bool) -> u32
+// Whether links lead from every other board to board 0. The search ends when it has all boards or a turn finds no more; 32 turns are enough.
+fn all_reach(t: &[u32], n: usize) -> bool
     requires { ⌜ (n ≤ 32) × (n ≤ length (now t)) ⌝ }
-    ensures { λ r. ⌜ r ≡ turned back (now (t .entry)) seen n ⌝ }
-{
-    if back {
-        return backward(t, seen, n);
-    }
-    onward(t, seen, n)
-}
-
-// Whether links lead from board 0 to every other, or with back from every other to board 0.
-// The search ends when it has all boards or a turn finds no more; 32 turns are enough.
-fn reaches_all(t: &[u32], n: usize, back: bool) -> bool
-    requires { ⌜ (n ≤ 32) × (n ≤ length (now t)) ⌝ }
-    ensures { λ r. ⌜ r ≡ sideFull back n (within n 31 (now (t .entry))) ⌝ }
+    ensures { λ r. ⌜ r ≡ sideFull true n (within n 31 (now (t .entry))) ⌝ }
 {
     let all = low_bits(n);
     let mut s = 1u32;
@@ -92,7 +86,7 @@ fn reaches_all(t: &[u32], n: usize, back: bool) -> bool
         if s & all == all {
             return true;
         }
-        let next = turn(t, s, n, back);
+        let next = backward(t, s, n);
         if next == s {
             return false;
         }
@@ -106,8 +100,8 @@ pub fn is_connected(t: &[u32], n: usize) -> bool
     requires { ⌜ (n ≤ 32) × (n ≡ length (now t)) ⌝ }
     ensures { λ r. ⌜ r ≡ connected n (now (t .entry)) ⌝ }
 {
-    if !reaches_all(t, n, false) {
+    if !reaches_all(t, n) {
         return false;
     }
-    reaches_all(t, n, true)
+    all_reach(t, n)
 }

@@ -19,14 +19,14 @@ loop-holds : tie.Need-loop-holds Inv-loop μ-loop
 unfolding collect
 loop-holds c = (search needs, refl)
 
-mul-with-board : tie.Need-mul-with-board Inv-loop μ-loop
-mul-with-board c = search needs
+mul-board-to : tie.Need-mul-board-to Inv-loop μ-loop
+mul-board-to c = search needs
 
-shared-slice-read-with-board : tie.Need-shared-slice-read-with-board Inv-loop μ-loop
-shared-slice-read-with-board c = search needs
+shared-slice-read-board-to : tie.Need-shared-slice-read-board-to Inv-loop μ-loop
+shared-slice-read-board-to c = search needs
 
-with-board-requires : tie.Need-with-board-requires Inv-loop μ-loop
-with-board-requires c κs = search needs
+board-to-requires : tie.Need-board-to-requires Inv-loop μ-loop
+board-to-requires c κs = search needs
 
 add-w : tie.Need-add-w Inv-loop μ-loop
 add-w c = search needs
@@ -35,7 +35,7 @@ loop-less : tie.Need-loop-less Inv-loop μ-loop
 loop-less c = search needs
 
 loop-again : tie.Need-loop-again Inv-loop μ-loop
-loop-again c = let c3 = c .before .before .before in (search needs, simp (c .with-board .ensures, collect-next, c3 .loop .inv .1))
+loop-again c = let c3 = c .before .before .before in (search needs, simp (c .board-to .ensures, collect-next, c3 .loop .inv .1))
 
 returns : tie.Need-returns Inv-loop μ-loop
 returns c = let e : c .before .loop .w ≡ c .before .before .before .args .n = omega arith in rw e at (c .before .loop .inv .1)
@@ -47,9 +47,9 @@ backward-spec =
     Inv-loop
     μ-loop
     loop-holds
-    mul-with-board
-    shared-slice-read-with-board
-    with-board-requires
+    mul-board-to
+    shared-slice-read-board-to
+    board-to-requires
     add-w
     loop-less
     loop-again

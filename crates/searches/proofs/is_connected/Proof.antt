@@ -17,16 +17,16 @@ returns c =
     let e = sym (c .before .reaches-all .ensures) ∙ not-true _ (c .if1 .taken) in
     rw (full-first _ _ (c .before .before .before .pre .0), e)
 
-reaches-all-requires-2 : tie.Need-reaches-all-requires-2
-reaches-all-requires-2 c κs = search needs
+all-reach-requires : tie.Need-all-reach-requires
+all-reach-requires c κs = search needs
 
 returns-2 : tie.Need-returns-2
 unfolding connected
 returns-2 c =
     let c2 = c .before .before in
     let e = sym (c2 .reaches-all .ensures) ∙ not-false _ (c .before .if1 .left) in
-    rw (full-first _ _ (c2 .before .before .pre .0), e) (c .reaches-all2 .ensures)
+    rw (full-first _ _ (c2 .before .before .pre .0), e) (c .all-reach .ensures)
 
 pub is-connected-spec : {M : Type 1} → statement M
 is-connected-spec =
-    tie.close (tie.spec reaches-all-requires returns reaches-all-requires-2 returns-2)
+    tie.close (tie.spec reaches-all-requires returns all-reach-requires returns-2)

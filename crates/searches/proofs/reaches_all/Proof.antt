@@ -1,52 +1,57 @@
--- `searches::reaches_all` meets its contract. The invariant is `Seen`; a turn that finds no more ends it (`seen-stays`).
+-- `searches::reaches_all` meets its contract. The invariant is `Gone`: `rest` becomes less with each board whose links are followed.
 -- Assumes nothing.
-use mathlib.Core.Path.{sym, _∙_}
-use Prim.Native.Nat.{_-_, _≤_}
+use mathlib.Core.Path.{sym}
 use native.Mathlib.Omega.{arith}
-use borrow.Author.Tests.{ne-eqb}
 use Rattle.model.proofs.Logic.{T→≡}
-use Rattle.searches.proofs.Search.{Seen, seen-start, seen-next, seen-stays, seen-all, seen-end}
+use Rattle.searches.proofs.Search.{Gone, gone-start, gone-next, gone-less, gone-below, gone-seen, gone-end, seen-all, seen-end}
 use borrow.Author.Needs.{needs}
 use Rattle.searches.proofs.reaches_all.Statement.{statement}
 use Rattle.searches.proofs.reaches_all.Tie as tie
 
 abbrev Inv-loop : tie.InvT-loop
-Inv-loop t n back all s₀ k₀ s k = (k ≤ 32) × Seen back n t s k
+Inv-loop t n all s₀ rest₀ s rest = Gone n t s rest
 
 abbrev μ-loop : tie.MeasureT-loop
-μ-loop t n back all s₀ k₀ s k = 32 - k
+μ-loop t n all s₀ rest₀ s rest = rest
 
 low-bits-requires : tie.Need-low-bits-requires Inv-loop μ-loop
 low-bits-requires c κs = search needs
 
 loop-holds : tie.Need-loop-holds Inv-loop μ-loop
-loop-holds c = (search needs, seen-start _ _ _)
+loop-holds c = rw (c .low-bits .ensures) (gone-start _ _)
+
+first-of-requires : tie.Need-first-of-requires Inv-loop μ-loop
+first-of-requires c κs = search needs
+
+mul-s : tie.Need-mul-s Inv-loop μ-loop
+mul-s c = search needs
+
+shared-slice-read-s : tie.Need-shared-slice-read-s Inv-loop μ-loop
+shared-slice-read-s c = omega (arith, gone-below _ (c .before .before .before .loop .inv) (c .before .first-of .ensures .1))
 
 returns : tie.Need-returns Inv-loop μ-loop
 returns c =
-    let c2 = c .before .before in
-    sym (T→≡ _ (seen-all (c2 .before .before .before .pre .0) (c2 .loop .inv .1) (rw (c2 .before .low-bits .ensures) at (c .if1 .taken))))
+    let c3 = c .before .before .before in
+    let inv = gone-next _ (c3 .before .before .before .before .pre .0) (c3 .before .loop .inv) (c .before .before .first-of .ensures .1) in
+    sym (T→≡ _ (seen-all (c3 .before .before .before .before .pre .0) (gone-seen inv) (rw (c3 .before .before .low-bits .ensures) at (c .if1 .taken))))
 
-turn-requires : tie.Need-turn-requires Inv-loop μ-loop
-turn-requires c κs = search needs
+cleared-requires : tie.Need-cleared-requires Inv-loop μ-loop
+cleared-requires c κs = search needs
+
+loop-less : tie.Need-loop-less Inv-loop μ-loop
+loop-less c =
+    let c5 = c .before .before .before .before .before in
+    rw (c .cleared .ensures) (gone-less _ (c5 .before .before .before .pre .0) (c5 .loop .inv) (c .before .before .before .first-of .ensures .1))
+
+loop-again : tie.Need-loop-again Inv-loop μ-loop
+loop-again c =
+    let c5 = c .before .before .before .before .before in
+    rw (c .cleared .ensures) (gone-next _ (c5 .before .before .before .pre .0) (c5 .loop .inv) (c .before .before .before .first-of .ensures .1))
 
 returns-2 : tie.Need-returns-2 Inv-loop μ-loop
 returns-2 c =
-    let c4 = c .before .before .before .before in
-    let m = seen-stays (sym (c .before .turn .ensures) ∙ c .if2 .taken) (c4 .loop .inv .1) 31 in
-    sym (ne-eqb _ _ (rw (c4 .before .low-bits .ensures) at (c .before .before .if1 .left))) ∙ seen-end (c4 .before .before .before .pre .0) m (omega arith)
-
-add-k : tie.Need-add-k Inv-loop μ-loop
-add-k c = search needs
-
-loop-less : tie.Need-loop-less Inv-loop μ-loop
-loop-less c = search needs
-
-loop-again : tie.Need-loop-again Inv-loop μ-loop
-loop-again c = (search needs, rw (c .before .turn .ensures) (seen-next (c .before .before .before .before .loop .inv .1)))
-
-returns-3 : tie.Need-returns-3 Inv-loop μ-loop
-returns-3 c = let c1 = c .before in rw (c1 .before .low-bits .ensures) (seen-end (c1 .before .before .before .pre .0) (c1 .loop .inv .1) (omega arith))
+    let c1 = c .before in
+    rw (c1 .before .low-bits .ensures) (seen-end (c1 .before .before .before .pre .0) (gone-end (c1 .loop .inv) (c .loop-test .left)) (omega arith))
 
 pub reaches-all-spec : {M : Type 1} → statement M
 reaches-all-spec =
@@ -56,10 +61,11 @@ reaches-all-spec =
     μ-loop
     low-bits-requires
     loop-holds
+    first-of-requires
+    mul-s
+    shared-slice-read-s
     returns
-    turn-requires
-    returns-2
-    add-k
+    cleared-requires
     loop-less
     loop-again
-    returns-3)
+    returns-2)
