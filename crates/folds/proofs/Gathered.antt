@@ -2,13 +2,18 @@
 use mathlib.Core.Path.{_≡_, refl, sym, ap, ap₂, _∙_, subst}
 use mathlib.Core.Bool.{Bool, true, false, not, _&&_, _||_}
 use mathlib.Core.List.{List, _++_}
-use Prim.Native.Nat.{ℕ, zero, suc, _+_, _-_, _*_, _≤_, _<_}
+use Prim.Native.Nat.{ℕ, zero, suc, _+_, _-_, _*_, _^_, _≤_, _<_}
 use native.Mathlib.Numerals.{add-one}
-use native.Mathlib.Nat.{add-sub-cancel-left, suc-mul, mul-le-mul, mul-le-mul-right, le-refl, eq-or-lt-of-le, le-of-suc-le-suc}
+use native.Mathlib.Nat.{add-sub-cancel-left, suc-mul, mul-le-mul, mul-le-mul-right, le-refl, eq-or-lt-of-le, le-of-suc-le-suc, lt-of-lt-of-le}
 use mathlib.Core.Logic.{⊎-elim}
 use borrow.Author.Tests.{eq-eqb, ne-eqb, eqb-true, eqb-false}
 use native.Mathlib.Omega.{arith}
-use lib.Dec.{eqb}
+use lib.Dec.{T, eqb}
+use lib.Pow.{pow-pos}
+use Rattle.model.proofs.Logic.{T→≡}
+use Rattle.model.proofs.Bits.{bit-high}
+use Rattle.links.specs.Tables.{without}
+use Rattle.links.proofs.Bits.{without-lt, bit-left, bit-out, bit-below, without-less}
 use lib.ListN.{length, getD, take, drop, List·getD-append}
 use lib.Seq.{ext-getD, getD-take, getD-drop}
 use Rattle.model.specs.Recording.{bit}
@@ -18,32 +23,84 @@ use Rattle.times.specs.Times.{cell, rows, choose, sooner, later, after, apart, 
 use Rattle.times.proofs.Rows.{row-le, part-length, Rowed}
 use Rattle.times.proofs.Cells.{length-rows, cell-rows}
 use Rattle.sets.specs.Marks.{someOf, setOf}
-use Rattle.folds.specs.Folds.{each, better, betterIf, crossBy, crossed, gather, foldOf, joinedRow, Shared}
-use Rattle.sets.proofs.Bits.{row-cell, some-none, bit-set}
+use Rattle.folds.specs.Folds.{each, better, betterIf, crossBy, crossed, gather, withFold, foldOf, joinedRow, Small, Shared}
+use Rattle.sets.proofs.Bits.{row-cell, some-none, bit-set, set-ext, set-lt}
 use Rattle.folds.proofs.Better.{better-none, better-assoc, better-comm, better-self}
 
 -- ---- the loops
 
--- op of a row made and the row at `at`
-row-next : (op : ℕ → ℕ → ℕ) (f g : ℕ → ℕ) (n at : ℕ) (xs t : List ℕ)
-    → xs ≡ tab f n
-    → ((v : ℕ) → op (f v) (getD t (at + v) 0) ≡ g v)
-    → tab (each op xs (take (at + n - at) (drop at t))) n ≡ tab g n
-row-next op f g n at xs t e h =
-    rw (add-sub-cancel-left, e)
-    (tab-ext (each op (tab f n) (take n (drop at t))) g n
-    (λ v l. simp (getD-tab f n v l, getD-take n (drop at t) v 0 l, getD-drop) (h v)))
-
-pub gather-none : (late : Bool) (n : ℕ) (t : List ℕ) (set : ℕ) → zeros n ≡ tab (gather late n t set 0) n
+-- rows below board w do not look at its bit
+gather-same : (late : Bool) (n : ℕ) (t : List ℕ) (set w v k : ℕ) → w < 32 → k ≤ w → gather late n t (without set w) k v ≡ gather late n t set k v
 unfolding gather
-gather-none late n t set = sym (tab-zero n) ∙ tab-ext _ _ n (λ v h. refl)
+gather-same late n t set w v zero h l = refl
+gather-same late n t set w v (suc k) h l =
+    ap₂ (λ (x : ℕ) (b : Bool). better late x (kept b (cell n t k v))) (gather-same late n t set w v k h (omega arith)) (bit-left set w k h (omega arith) (omega arith))
 
--- a turn: row k is lent and taken in, where the set has k
-pub gather-next : (late : Bool) (n : ℕ) (t : List ℕ) (set k : ℕ) (xs : List ℕ) {on : Bool} → on ≡ bit set k → xs ≡ tab (gather late n t set k) n
-    → tab (each (betterIf late on) xs (take (k * n + n - k * n) (drop (k * n) t))) n ≡ tab (gather late n t set (k + 1)) n
+-- row w taken out of a set that has it
+gather-out : (late : Bool) (n : ℕ) (t : List ℕ) (set w v k : ℕ) → w < k → k ≤ 32 → T (bit set w)
+    → gather late n t set k v ≡ better late (cell n t w v) (gather late n t (without set w) k v)
 unfolding gather
-gather-next late n t set k xs {on} q e =
-    row-next (betterIf late on) (gather late n t set k) (gather late n t set (k + 1)) n (k * n) xs t e (λ v. rw (add-one k, q))
+gather-out late n t set w v zero h l b = absurd (omega arith)
+gather-out late n t set w v (suc k) h l b =
+    ⊎-elim (λ (e : w ≡ k). subst (λ (i : ℕ). better late (gather late n t set i v) (kept (bit set i) (cell n t i v))
+    ≡ better late (cell n t w v) (better late (gather late n t (without set w) i v) (kept (bit (without set w) i) (cell n t i v)))) e own)
+    (λ (m : w < k). ap₂ (λ (x : ℕ) (c : Bool). better late x (kept c (cell n t k v))) (gather-out late n t set w v k m (omega arith) b)
+    (sym (bit-left set w k (omega arith) (omega arith) (omega arith))) ∙ better-assoc late _ _ _)
+    (eq-or-lt-of-le (le-of-suc-le-suc h))
+  where
+    own : better late (gather late n t set w v) (kept (bit set w) (cell n t w v))
+        ≡ better late (cell n t w v) (better late (gather late n t (without set w) w v) (kept (bit (without set w) w) (cell n t w v)))
+    own =
+        rw (T→≡ (bit set w) b, bit-out set w (omega arith), gather-same late n t set w v w (omega arith) (le-refl w), better-none late (gather late n t set w v))
+        (better-comm late _ _)
+
+gather-empty : (late : Bool) (n : ℕ) (t : List ℕ) (v k : ℕ) → gather late n t 0 k v ≡ 0
+unfolding gather
+gather-empty late n t v zero = refl
+gather-empty late n t v (suc k) = rw (gather-empty late n t v k, bit-high 0 k (pow-pos k)) (better-none late 0)
+
+pub fold-empty : (late : Bool) (n : ℕ) (t : List ℕ) {set : ℕ} {xs : List ℕ} → set ≡ 0 → xs ≡ zeros n → xs ≡ tab (gather late n t set n) n
+fold-empty late n t e q = q ∙ sym (tab-zero n) ∙ tab-ext _ _ n (λ v h. sym (rw e (gather-empty late n t v n)))
+
+-- the first row, then the others
+pub fold-first : (late : Bool) (n : ℕ) (t : List ℕ) (set w : ℕ) {left : ℕ} {row xs : List ℕ} → n ≤ 32 → w < n → T (bit set w) → left ≡ without set w
+    → row ≡ take (w * n + n - w * n) (drop (w * n) t) → xs ≡ tab (withFold late n t left row) n → xs ≡ tab (gather late n t set n) n
+unfolding withFold
+fold-first late n t set w n32 h b l e q =
+    q ∙ tab-ext _ _ n (λ v m. rw (l, e, row-cell n w t v m) (sym (gather-out late n t set w v n h n32 b)))
+
+-- The invariant of a loop that takes in the rows of a set: out, with those of `rest`, is row₀ with all.
+pub record Folded (late : Bool) (n : ℕ) (t : List ℕ) (set : ℕ) (row₀ out : List ℕ) (rest : ℕ) : Type 0 where
+  pub size : n ≡ length out
+  pub small : rest < 2 ^ n
+  pub made : (v : ℕ) → v < n → withFold late n t rest out v ≡ withFold late n t set row₀ v
+
+pub folded-start : {late : Bool} {n : ℕ} {t : List ℕ} {set : ℕ} {row₀ : List ℕ} → n ≡ length row₀ → set < 2 ^ n → Folded late n t set row₀ row₀ set
+folded-start e h = record { size = e; small = h; made = λ v l. refl }
+
+module _ {late : Bool} {n : ℕ} {t : List ℕ} {set : ℕ} {row₀ out : List ℕ} {rest : ℕ} (m : Folded late n t set row₀ out rest) where
+  pub folded-below : (w : ℕ) → T (bit rest w) → w < n
+  folded-below w b = bit-below rest (m .small) b
+
+  pub folded-less : (w : ℕ) → n ≤ 32 → T (bit rest w) → without rest w < rest
+  folded-less w n32 b = without-less rest w (lt-of-lt-of-le (folded-below w b) n32) b
+
+  pub folded-next : (w : ℕ) {xs : List ℕ} {left : ℕ} → n ≤ 32 → T (bit rest w) → left ≡ without rest w
+      → xs ≡ tab (each (better late) out (take (w * n + n - w * n) (drop (w * n) t))) n → Folded late n t set row₀ xs left
+  unfolding withFold
+  folded-next w {xs} {left} n32 b l e = record {
+    size = sym (ap length e ∙ length-tab _ n);
+    small = subst (λ (x : ℕ). x < 2 ^ n) (sym l) (without-lt n rest w (m .small));
+    made = λ v h. rw (l, e, getD-tab (each (better late) out (take (w * n + n - w * n) (drop (w * n) t))) n v h, row-cell n w t v h)
+        (better-assoc late _ _ _ ∙ ap (better late (getD out v 0)) (sym (gather-out late n t rest w v n (folded-below w b) n32 b)) ∙ m .made v h);
+  }
+
+  pub folded-all : rest ≡ 0 → out ≡ tab (withFold late n t set row₀) n
+  unfolding withFold
+  folded-all e =
+      ext-getD 0 out (tab (withFold late n t set row₀) n) (sym (m .size) ∙ sym (length-tab _ n))
+      (λ v l. let h : v < n = omega (arith, m .size) in
+      sym (better-none late _) ∙ ap (better late (getD out v 0)) (sym (rw e (gather-empty late n t v n))) ∙ m .made v h ∙ sym (getD-tab (withFold late n t set row₀) n v h))
 
 -- a row with its fold, as they are lent
 pub joined-lent : (late : Bool) (n u : ℕ) (s f : List ℕ)
@@ -69,14 +126,15 @@ same-fold late n t sets u folds k s h e =
     lent-row n k folds _ (omega (arith, row-le n b, s .room)) (λ v l. s .made k v h l ∙ ap (λ (x : ℕ). gather late n t x n v) e)
 
 -- the folds below u are made
-pub shared : {late : Bool} {n : ℕ} {t sets folds₀ folds : List ℕ} {u : ℕ} → n ≤ 32 → n ≤ length sets → n * n ≤ length t → u < n
+pub shared : {late : Bool} {n : ℕ} {t sets folds₀ folds : List ℕ} {u : ℕ} → n ≤ 32 → n ≤ length sets → n * n ≤ length t → Small n sets → u < n
     → Rowed n (foldOf late n t sets) folds₀ folds u → Shared late n t sets u folds
-shared {late} {n} {t} {sets} {folds₀} {folds} {u} few words table below m = record {
+shared {late} {n} {t} {sets} {folds₀} {folds} {u} few words table small below m = record {
   few = few;
   below = below;
   words = words;
   table = table;
   room = omega (arith, m .long);
+  small = small .small u below;
   made = λ k v h l. rw (m .made)
       (List·getD-append (rows n (foldOf late n t sets) u) (drop (u * n) folds₀) 0 (k * n + v)
       (omega (arith, length-rows n (foldOf late n t sets) u, mul-le-mul-right n h, suc-mul k n)) ∙ cell-rows n (foldOf late n t sets) u k v h l);
@@ -206,7 +264,7 @@ apart-comm : (u v x : ℕ) → apart v u x ≡ apart u v x
 unfolding apart
 apart-comm u v x = ap (λ (b : Bool). choose b 0 x) (eqb-comm u v)
 
-module _ (n : ℕ) (s t near far out : List ℕ) (e : near ≡ rows n (turned n t) n) (f : far ≡ rows n (turned n s) n) where
+module _ (n : ℕ) (s t near far : List ℕ) (e : near ≡ rows n (turned n t) n) (f : far ≡ rows n (turned n s) n) where
   cross-depart : (k u v : ℕ) → k ≤ n → u < n → v < n → crossBy true n near far k v u ≡ departBy n s t k u v
   unfolding crossBy departBy better
   cross-depart zero u v h hu hv =
@@ -215,7 +273,32 @@ module _ (n : ℕ) (s t near far out : List ℕ) (e : near ≡ rows n (turned n 
       ap₂ later (cross-depart k u v (omega arith) hu hv)
       (ap₂ after (rw e (cell-rows n (turned n t) n v k hv h)) (rw f (cell-rows n (turned n s) n k u h hu)))
 
-  pub crossed-departures : out ≡ rows n (crossed true n near far) n → rows n (turned n out) n ≡ departures n s t
-  unfolding crossed departures departure
-  crossed-departures q =
-      rows-ext n _ _ n (λ u v hu hv. rw q (cell-rows n (crossed true n near far) n v u hv hu) ∙ apart-comm u v _ ∙ ap (apart u v) (cross-depart n u v (le-refl n) hu hv))
+  near-cell : (u v : ℕ) → u < n → v < n → cell n near u v ≡ cell n t v u
+  near-cell u v hu hv = rw e (cell-rows n (turned n t) n u v hu hv)
+
+  crossed-apart : (u v : ℕ) → u < n → v < n → crossed true n near far v u ≡ apart u v (departBy n s t n u v)
+  unfolding crossed
+  crossed-apart u v hu hv = apart-comm u v _ ∙ ap (apart u v) (cross-depart n u v (le-refl n) hu hv)
+
+  -- the fold of column v, which is row v of the turned table
+  cross-column : (sets : List ℕ) → sets ≡ tab (λ u. setOf (λ w. cell n t w u) n (someOf n far) u) n
+      → (u v : ℕ) → u < n → v < n → joinedRow true (cell n t u) (λ i. foldOf true n far sets i u) u v ≡ departure n s t u v
+  unfolding departure
+  cross-column sets q u v hu hv =
+      let a : getD sets v 0 ≡ setOf (λ w. cell n t w v) n (someOf n far) v = rw q (getD-tab (λ x. setOf (λ w. cell n t w x) n (someOf n far) x) n v hv) in
+      let d = a ∙ set-ext (λ w. cell n t w v) (cell n near v) n (someOf n far) v (λ w h. sym (near-cell v w hv h)) in
+      sym (apart-comm u v _) ∙ ap₂ (λ (x y : ℕ). apart v u (better true x (gather true n far y n u))) (sym (near-cell v u hv hu)) d ∙ sym (cross-gather true n near far v u hv hu) ∙ crossed-apart u v hu hv
+
+pub crossed-departures : (n : ℕ) (s t far sets folds back : List ℕ) → far ≡ rows n (turned n s) n → sets ≡ tab (λ u. setOf (λ w. cell n t w u) n (someOf n far) u) n
+    → folds ≡ rows n (foldOf true n far sets) n → back ≡ rows n (turned n folds) n → rows n (λ u. joinedRow true (cell n t u) (cell n back u) u) n ≡ departures n s t
+unfolding departures
+crossed-departures n s t far sets folds back f q g k =
+    rows-ext n _ _ n (λ u v hu hv.
+    let a : cell n back u v ≡ cell n folds v u = rw k (cell-rows n (turned n folds) n u v hu hv) in
+    let b : cell n folds v u ≡ foldOf true n far sets v u = rw g (cell-rows n (foldOf true n far sets) n v u hv hu) in
+    ap (λ (x : ℕ). apart u v (better true (cell n t u v) x)) (a ∙ b) ∙ cross-column n s t (rows n (turned n t) n) far refl f sets q u v hu hv)
+
+-- ---- the sets that are made
+
+pub small-sets : (n : ℕ) (f : ℕ → ℕ → ℕ) (t sets : List ℕ) → sets ≡ tab (λ u. setOf (f u) n (someOf n t) u) n → Small n sets
+small-sets n f t sets e = record { small = λ u h. subst (λ (x : ℕ). x < 2 ^ n) (sym (rw e (getD-tab (λ i. setOf (f i) n (someOf n t) i) n u h))) (set-lt (f u) n t u) }

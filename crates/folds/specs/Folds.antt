@@ -3,7 +3,7 @@
 use mathlib.Core.Path.{_≡_}
 use mathlib.Core.Bool.{Bool, true, false}
 use mathlib.Core.List.{List, _++_}
-use Prim.Native.Nat.{ℕ, zero, suc, _+_, _-_, _*_, _≤_, _<_}
+use Prim.Native.Nat.{ℕ, zero, suc, _+_, _-_, _*_, _^_, _≤_, _<_}
 use lib.ListN.{length, getD, take, drop}
 use Rattle.model.specs.Recording.{bit}
 use Rattle.lists.specs.Tab.{kept}
@@ -46,6 +46,10 @@ unfoldable pub gather : Bool → ℕ → List ℕ → ℕ → ℕ → ℕ → �
 gather late n t set zero v = 0
 gather late n t set (suc k) v = betterIf late (bit set k) (gather late n t set k v) (cell n t k v)
 
+-- the words of a row, with the best times of the rows that are in the set
+unfoldable pub withFold : Bool → ℕ → List ℕ → ℕ → List ℕ → ℕ → ℕ
+withFold late n t set row v = better late (getD row v 0) (gather late n t set n v)
+
 -- the fold of row u
 abbrev pub foldOf : Bool → ℕ → List ℕ → List ℕ → ℕ → ℕ → ℕ
 foldOf late n t sets u v = gather late n t (getD sets u 0) n v
@@ -54,6 +58,10 @@ foldOf late n t sets u v = gather late n t (getD sets u 0) n v
 abbrev pub joinedRow : Bool → (ℕ → ℕ) → (ℕ → ℕ) → ℕ → ℕ → ℕ
 joinedRow late f g u v = apart u v (better late (f v) (g v))
 
+-- sets of boards below n
+pub record Small (n : ℕ) (sets : List ℕ) : Type 0 where
+  pub small : (u : ℕ) → u < n → getD sets u 0 < 2 ^ n
+
 -- what the fold of row u relies on: the folds below it are made
 pub record Shared (late : Bool) (n : ℕ) (t sets : List ℕ) (u : ℕ) (folds : List ℕ) : Type 0 where
   pub few : n ≤ 32
@@ -61,4 +69,5 @@ pub record Shared (late : Bool) (n : ℕ) (t sets : List ℕ) (u : ℕ) (folds :
   pub words : n ≤ length sets
   pub table : n * n ≤ length t
   pub room : n * n ≤ length folds
+  pub small : getD sets u 0 < 2 ^ n
   pub made : (k v : ℕ) → k < u → v < n → cell n folds k v ≡ foldOf late n t sets k v

@@ -2,11 +2,12 @@
 // which boards u reaches, so rows with the same set of boards share one fold over the later table. Latest departures are the same, with
 // rows and columns exchanged and the two parts too.
 ghost use mathlib.Core.Path.{_≡_};
-ghost use Prim.Native.Nat.{_+_, _*_, _≤_, _<_};
+ghost use mathlib.Core.Bool.{false};
+ghost use Prim.Native.Nat.{_+_, _*_, _^_, _≤_, _<_};
 ghost use lib.ListN.{length, getD};
 ghost use Rattle.lists.specs.Tab.{tab, zeros};
 ghost use Rattle.times.specs.Times.{cell, rows, sooner, later, departures, composeTimes};
-ghost use Rattle.folds.specs.Folds.{each, better, betterIf, rowAt, putRow, gather, foldOf, joinedRow, crossed, Shared};
+ghost use Rattle.folds.specs.Folds.{each, better, rowAt, putRow, gather, withFold, foldOf, joinedRow, crossed, Small, Shared};
 use model::Board;
 
 // ---- a row taken in
@@ -58,42 +59,35 @@ fn fold(out: &mut [u32], row: &[u32], n: usize, late: bool)
     fold_sooner(out, row, n);
 }
 
-// The same, where the row is to be taken in.
-fn fold_if(out: &mut [u32], row: &[u32], n: usize, late: bool, on: bool)
-    requires { ⌜ (n ≡ length (now out)) × (n ≡ length (now row)) ⌝ }
-    ensures { λ _. ⌜ now (out .exit) ≡ tab (each (betterIf late on) (now (out .entry)) (now (row .entry))) n ⌝ }
-{
-    if on {
-        fold(out, row, n, late);
-    }
-}
-
 // ---- folds
 
 // Takes in the rows of the boards of a set.
 fn fold_set(out: &mut [u32], later: &[u32], n: usize, set: u32, late: bool)
-    requires { ⌜ (n ≤ 32) × ((now out ≡ zeros n) × ((n ≡ length (now out)) × (n * n ≤ length (now later)))) ⌝ }
-    ensures { λ _. ⌜ now (out .exit) ≡ tab (gather late n (now (later .entry)) set n) n ⌝ }
+    requires { ⌜ (n ≤ 32) × ((set < 2 ^ n) × ((n ≡ length (now out)) × (n * n ≤ length (now later)))) ⌝ }
+    ensures { λ _. ⌜ now (out .exit) ≡ tab (withFold late n (now (later .entry)) set (now (out .entry))) n ⌝ }
 {
-    for w in 0..n {
+    let mut rest = set;
+    while rest != 0 {
+        let w = links::first_of(rest);
         let at = w * n;
-        fold_if(
-            out,
-            &later[at..at + n],
-            n,
-            late,
-            links::linked(set, Board(w)),
-        );
+        fold(out, &later[at..at + n], n, late);
+        rest = links::cleared(rest, Board(w));
     }
 }
 
-// The fold of one set.
+// The fold of one set: its first row, with the others.
 fn fold_row(out: &mut [u32], later: &[u32], n: usize, set: u32, late: bool)
-    requires { ⌜ (n ≤ 32) × ((n ≡ length (now out)) × (n * n ≤ length (now later))) ⌝ }
+    requires { ⌜ (n ≤ 32) × ((set < 2 ^ n) × ((n ≡ length (now out)) × (n * n ≤ length (now later)))) ⌝ }
     ensures { λ _. ⌜ now (out .exit) ≡ tab (gather late n (now (later .entry)) set n) n ⌝ }
 {
-    lists::zero_over(out, n);
-    fold_set(out, later, n, set, late);
+    if set == 0 {
+        lists::zero_over(out, n);
+        return;
+    }
+    let w = links::first_of(set);
+    let at = w * n;
+    lists::copy_over(out, &later[at..at + n], n);
+    fold_set(out, later, n, links::cleared(set, Board(w)), late);
 }
 
 // Row d becomes row l, through a lent row: a part that is written and one that is read cannot be lent together.
@@ -132,7 +126,7 @@ fn write_fold(folds: &mut [u32], later: &[u32], sets: &[u32], n: usize, own: Boa
 
 // The folds of all rows.
 fn fold_rows(folds: &mut [u32], later: &[u32], sets: &[u32], n: usize, late: bool)
-    requires { ⌜ (n ≤ 32) × ((n ≤ length (now sets)) × ((n * n ≡ length (now folds)) × (n * n ≤ length (now later)))) ⌝ }
+    requires { ⌜ (n ≤ 32) × ((n ≤ length (now sets)) × ((n * n ≡ length (now folds)) × ((n * n ≤ length (now later)) × Small n (now sets)))) ⌝ }
     ensures { λ _. ⌜ now (folds .exit) ≡ rows n (foldOf late n (now (later .entry)) (now (sets .entry))) n ⌝ }
 {
     for u in 0..n {
@@ -199,48 +193,22 @@ fn cross_rows(out: &mut [u32], earlier: &[u32], folds: &[u32], n: usize, late: b
     }
 }
 
-// A half of the composition of two halves, with room lent for the sets and the folds.
-fn cross_in(
+// Earliest arrivals. Room is lent for the sets and the folds.
+fn arrive(
     out: &mut [u32],
     earlier: &[u32],
     later: &[u32],
     sets: &mut [u32],
     folds: &mut [u32],
     n: usize,
-    late: bool,
 )
     requires { ⌜ (n ≤ 32) × ((n * n ≡ length (now out)) × ((n * n ≤ length (now earlier)) × ((n * n ≤ length (now later)) × ((n ≡ length (now sets)) × (n * n ≡ length (now folds)))))) ⌝ }
-    ensures { λ _. ⌜ now (out .exit) ≡ rows n (crossed late n (now (earlier .entry)) (now (later .entry))) n ⌝ }
+    ensures { λ _. ⌜ now (out .exit) ≡ rows n (crossed false n (now (earlier .entry)) (now (later .entry))) n ⌝ }
 {
     let some = sets::some_rows(later, n);
     sets::write(sets, earlier, n, some);
-    fold_rows(folds, later, sets, n, late);
-    cross_rows(out, earlier, folds, n, late);
-}
-
-// A half of the composition of two halves.
-fn cross(out: &mut [u32], earlier: &[u32], later: &[u32], n: usize, late: bool)
-    requires { ⌜ (n ≤ 32) × ((n * n ≡ length (now out)) × ((n * n ≤ length (now earlier)) × (n * n ≤ length (now later)))) ⌝ }
-    ensures { λ _. ⌜ now (out .exit) ≡ rows n (crossed late n (now (earlier .entry)) (now (later .entry))) n ⌝ }
-{
-    let m = n * n;
-    let mut sets = lists::no_words();
-    let mut folds = no_times();
-    cross_in(
-        out,
-        earlier,
-        later,
-        &mut sets[0..n],
-        &mut folds[0..m],
-        n,
-        late,
-    );
-}
-
-fn no_times() -> [u32; 1024]
-    ensures { λ r. ⌜ r ≡ zeros 1024 ⌝ }
-{
-    [0u32; 1024]
+    fold_rows(folds, later, sets, n, false);
+    cross_rows(out, earlier, folds, n, false);
 }
 
 // ---- rows and columns exchanged
@@ -266,45 +234,51 @@ fn turn(out: &mut [u32], half: &[u32], n: usize)
     }
 }
 
-// Latest departures: columns for rows, and the later part for the earlier. Room is lent for the turned tables.
-fn depart_in(
+// Latest departures: columns for rows, and the later part for the earlier. Room is lent for the sets and for a turned table: first that of the
+// earlier part, then that of the folds, which are made in half.
+fn depart(
     half: &mut [u32],
     left: &[u32],
     right: &[u32],
-    near: &mut [u32],
+    sets: &mut [u32],
     far: &mut [u32],
-    out: &mut [u32],
     n: usize,
 )
-    requires { ⌜ (n ≤ 32) × ((n * n ≡ length (now half)) × ((n * n ≤ length (now left)) × ((n * n ≤ length (now right)) × ((n * n ≡ length (now near)) × ((n * n ≡ length (now far)) × (n * n ≡ length (now out))))))) ⌝ }
+    requires { ⌜ (n ≤ 32) × ((n * n ≡ length (now half)) × ((n * n ≤ length (now left)) × ((n * n ≤ length (now right)) × ((n ≡ length (now sets)) × (n * n ≡ length (now far)))))) ⌝ }
     ensures { λ _. ⌜ now (half .exit) ≡ departures n (now (left .entry)) (now (right .entry)) ⌝ }
 {
-    turn(near, right, n);
     turn(far, left, n);
-    cross(out, near, far, n, true);
-    turn(half, out, n);
-}
-
-fn cross_departures(half: &mut [u32], left: &[u32], right: &[u32], n: usize)
-    requires { ⌜ (n ≤ 32) × ((n * n ≡ length (now half)) × ((n * n ≤ length (now left)) × (n * n ≤ length (now right)))) ⌝ }
-    ensures { λ _. ⌜ now (half .exit) ≡ departures n (now (left .entry)) (now (right .entry)) ⌝ }
-{
-    let m = n * n;
-    let mut near = no_times();
-    let mut far = no_times();
-    let mut out = no_times();
-    depart_in(
-        half,
-        left,
-        right,
-        &mut near[0..m],
-        &mut far[0..m],
-        &mut out[0..m],
-        n,
-    );
+    let some = sets::some_rows(far, n);
+    sets::write_columns(sets, right, n, some);
+    fold_rows(half, far, sets, n, true);
+    turn(far, half, n);
+    cross_rows(half, right, far, n, true);
 }
 
 // ---- composition
+
+// Both halves, with room lent for sets and for a table.
+fn compose_in(
+    out: &mut [u32],
+    left: &[u32],
+    right: &[u32],
+    sets: &mut [u32],
+    room: &mut [u32],
+    n: usize,
+)
+    requires { ⌜ (n ≤ 32) × ((n * n + n * n ≡ length (now out)) × ((n * n + n * n ≤ length (now left)) × ((n * n + n * n ≤ length (now right)) × ((n ≡ length (now sets)) × (n * n ≡ length (now room)))))) ⌝ }
+    ensures { λ _. ⌜ now (out .exit) ≡ composeTimes n (now (left .entry)) (now (right .entry)) ⌝ }
+{
+    let m = n * n;
+    arrive(&mut out[0..m], left, right, sets, room, n);
+    depart(&mut out[m..m + m], &left[m..], &right[m..], sets, room, n);
+}
+
+fn no_times() -> [u32; 1024]
+    ensures { λ r. ⌜ r ≡ zeros 1024 ⌝ }
+{
+    [0u32; 1024]
+}
 
 // Writes over out the composition of left, the earlier part, and right, the later part.
 pub fn compose(out: &mut [u32], left: &[u32], right: &[u32], n: usize)
@@ -312,6 +286,7 @@ pub fn compose(out: &mut [u32], left: &[u32], right: &[u32], n: usize)
     ensures { λ _. ⌜ now (out .exit) ≡ composeTimes n (now (left .entry)) (now (right .entry)) ⌝ }
 {
     let m = n * n;
-    cross(&mut out[0..m], left, right, n, false);
-    cross_departures(&mut out[m..m + m], &left[m..], &right[m..], n);
+    let mut sets = lists::no_words();
+    let mut room = no_times();
+    compose_in(out, left, right, &mut sets[0..n], &mut room[0..m], n);
 }

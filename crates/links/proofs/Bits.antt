@@ -4,15 +4,15 @@ use mathlib.Core.Logic.{_≢_, _⊎_, inl, inr, ⊎-elim, _↔_}
 use mathlib.Core.Bool.{Bool, true, false, _||_, _&&_, not}
 use mathlib.Core.List.{List}
 use Prim.Native.Nat.{ℕ, zero, suc, _-_, _^_, _≤_, _<_}
-use native.Mathlib.Nat.{lt-of-lt-of-le, lt-of-le-of-lt, not-suc-le-zero}
+use native.Mathlib.Nat.{lt-of-lt-of-le, lt-of-le-of-lt, not-suc-le-zero, eq-or-lt-of-le}
 use native.Mathlib.Decide.{decLt}
 use native.Mathlib.Omega.{arith}
 use lib.Bits.{bitOr, or-lt, and-le-l, and-le-r}
 use lib.Dec.{T, eqb}
 use lib.ListN.{length, getD, List·getD-eq-default}
-use lib.Pow.{pow-pos, pow-lt}
+use lib.Pow.{pow-pos, pow-lt, pow-mono}
 use Rattle.model.specs.Recording.{bit, link, Words, Clean}
-use Rattle.model.proofs.Logic.{tr, or-l, or-r, or-cases, and-both, and-l, and-r, eqb-ne, ne-eqb, eq-or}
+use Rattle.model.proofs.Logic.{tr, T→≡, F→≡, or-l, or-r, or-cases, and-both, and-l, and-r, eqb-ne, ne-eqb, eq-or, le-or-lt}
 use Rattle.model.proofs.Bits.{bit-high, bit-or, bit-and, bit-one, bit-complement}
 use Rattle.model.proofs.Links.{link-from}
 use Rattle.lists.specs.Tab.{tab, kept, zeros}
@@ -43,6 +43,28 @@ pub bit-without : (x u v : ℕ) → u < 32 → v < 32 → bit (without x u) v �
 unfolding without
 bit-without x u v hu hv =
     bit-and x (2 ^ 32 - 1 - 2 ^ u) v ∙ ap (λ (b : Bool). bit x v && b) (bit-complement 32 (2 ^ u) v (pow-lt {j = 32} hu) hv ∙ ap not (bit-one u v))
+
+-- a board that stays, and the one that is taken out
+pub bit-left : (x w v : ℕ) → w < 32 → v < 32 → w ≢ v → bit (without x w) v ≡ bit x v
+bit-left x w v hw hv ne = bit-without x w v hw hv ∙ rw (T→≡ (not (eqb w v)) (eqb-ne w v ne)) (and-true (bit x v))
+  where
+    and-true : (b : Bool) → b && true ≡ b
+    and-true true = refl
+    and-true false = refl
+
+pub bit-out : (x w : ℕ) → w < 32 → bit (without x w) w ≡ false
+bit-out x w h = F→≡ (bit (without x w) w) (λ m. ne-eqb w w (and-r (bit x w) (not (eqb w w)) (tr (bit-without x w w h h) m)) refl)
+
+-- a set without one of its boards is less
+pub without-less : (x w : ℕ) → w < 32 → T (bit x w) → without x w < x
+unfolding without
+without-less x w h b =
+    ⊎-elim (λ (e : without x w ≡ x). absurd (tr (bit-out x w h) (subst (λ (y : ℕ). T (bit y w)) (sym e) b))) (λ (l : without x w < x). l)
+    (eq-or-lt-of-le (and-le-l x (2 ^ 32 - 1 - 2 ^ w)))
+
+-- a board of a set of boards below n is below n
+pub bit-below : {n w : ℕ} (x : ℕ) → x < 2 ^ n → T (bit x w) → w < n
+bit-below {n} {w} x h m = ⊎-elim (λ (l : n ≤ w). absurd (tr (bit-high x w (lt-of-lt-of-le h (pow-mono l))) m)) (λ (l : w < n). l) (le-or-lt n w)
 
 -- the bits gathered: those of x, and those of the words that the row has the bit of
 gathered-bit : (x row : ℕ) (t : List ℕ) (v k : ℕ) → T (bit (gathered x row t k) v) ↔ (T (bit x v) ⊎ ((w : ℕ) × (w < k) × T (bit row w) × T (link t w v)))

@@ -1,6 +1,6 @@
 -- The searches from board 0, on the words as they are found: what they find, and that from every board links lead to every other exactly when
 -- they lead from board 0 to all and from all to board 0. Assumes nothing.
-use mathlib.Core.Path.{_≡_, refl, sym, ap, _∙_, subst}
+use mathlib.Core.Path.{_≡_, sym, ap, _∙_, subst}
 use mathlib.Core.Logic.{_≢_, _⊎_, inl, inr, ⊎-elim}
 use mathlib.Core.Bool.{Bool, false, true, _||_, _&&_, not}
 use mathlib.Core.List.{List}
@@ -8,18 +8,18 @@ use Prim.Native.Nat.{ℕ, zero, suc, _+_, _-_, _/_, _%_, _^_, _≤_, _<_}
 use native.Mathlib.Nat.{add-zero, add-suc, not-suc-le-zero, le-of-suc-le-suc, eq-or-lt-of-le, lt-of-lt-of-le, le-of-lt, le-refl, le-trans}
 use native.Mathlib.Numerals.{add-one}
 use native.Mathlib.Omega.{arith}
-use lib.Bits.{bitAnd, bitOr, and-le-l}
+use lib.Bits.{bitAnd, bitOr}
 use lib.Dec.{T, eqb, eqb→eq, eqb-refl}
 use lib.ListN.{getD}
-use lib.Pow.{pow-pos, pow-mono, ones-lt}
+use lib.Pow.{pow-pos, ones-lt}
 use Rattle.model.specs.Recording.{bit, link}
-use Rattle.model.proofs.Logic.{tr, bool-ext, or-l, or-r, or-cases, and-both, and-l, and-r, not-in, not-out, eqb-ne, ne-eqb, eq-or, eq-refl, le-or-lt}
+use Rattle.model.proofs.Logic.{tr, bool-ext, or-l, or-r, or-cases, and-both, and-l, and-r, not-in, not-out, ne-eqb, eq-or, eq-refl}
 use Rattle.model.proofs.Bits.{bit-zero, bit-suc, bit-high, bit-or, bit-and, bit-one}
 use Rattle.model.proofs.Ones.{bit-low, all-in, all-out}
 use Rattle.lists.specs.Tab.{kept}
 use Rattle.lists.proofs.Tab.{every-in, every-out}
 use Rattle.links.specs.Tables.{without, within, pairFull, rowFull, full}
-use Rattle.links.proofs.Bits.{bit-kept, bit-without, without-lt}
+use Rattle.links.proofs.Bits.{bit-kept, bit-left, without-less, bit-below, without-lt}
 use Rattle.links.proofs.Ways.{Way, one, more, snoc, Short, last-link, within-way, way-short, Led, onward}
 use Rattle.searches.specs.Search.{leading, collect, sidePair, sideFull}
 
@@ -173,12 +173,8 @@ gone-start n t = record {
 }
 
 -- a board of `rest` is below n
-rest-below : {n w : ℕ} (rest : ℕ) → rest < 2 ^ n → T (bit rest w) → w < n
-rest-below {n} {w} rest h m =
-    ⊎-elim (λ (l : n ≤ w). absurd (tr (bit-high rest w (lt-of-lt-of-le h (pow-mono l))) m)) (λ (l : w < n). l) (le-or-lt n w)
-
 pub gone-below : {n s rest : ℕ} {t : List ℕ} (w : ℕ) → Gone n t s rest → T (bit (bitAnd s rest) w) → w < n
-gone-below {s = s} {rest = rest} w m b = rest-below rest (m .few) (and-r (bit s w) (bit rest w) (tr (bit-and s rest w) b))
+gone-below {s = s} {rest = rest} w m b = bit-below rest (m .few) (and-r (bit s w) (bit rest w) (tr (bit-and s rest w) b))
 
 -- the links of board w are followed
 pub gone-next : {n s rest : ℕ} {t : List ℕ} (w : ℕ) → n ≤ 32 → Gone n t s rest → T (bit (bitAnd s rest) w) → Gone n t (bitOr s (getD t w 0)) (without rest w)
@@ -201,23 +197,12 @@ gone-next {n} {s} {rest} {t} w n32 m b = record {
     grow v k = tr (sym (bit-or s (getD t w 0) v)) (or-l (bit s v) (bit (getD t w 0) v) k)
 
     still : (x : ℕ) → x < n → w ≢ x → T (not (bit (without rest w) x)) → T (not (bit rest x))
-    still x h ne k =
-        not-in (bit rest x) (λ r. not-out (bit (without rest w) x) k (tr (sym (bit-without rest w x (lt-of-lt-of-le below n32) (lt-of-lt-of-le h n32))) (and-both (bit rest x) (not (eqb w x)) r (eqb-ne w x ne))))
+    still x h ne k = subst (λ (q : Bool). T (not q)) (bit-left rest w x (lt-of-lt-of-le below n32) (lt-of-lt-of-le h n32) ne) k
 
 -- `rest` becomes less
 pub gone-less : {n s rest : ℕ} {t : List ℕ} (w : ℕ) → n ≤ 32 → Gone n t s rest → T (bit (bitAnd s rest) w) → without rest w < rest
-unfolding without
-gone-less {n} {s} {rest} {t} w n32 m b =
-    ⊎-elim (λ (e : without rest w ≡ rest). absurd (no e)) (λ (l : without rest w < rest). l) (eq-or-lt-of-le (and-le-l rest (2 ^ 32 - 1 - 2 ^ w)))
-  where
-    q : T (bit rest w)
-    q = and-r (bit s w) (bit rest w) (tr (bit-and s rest w) b)
-
-    w32 : w < 32
-    w32 = lt-of-lt-of-le (gone-below w m b) n32
-
-    no : without rest w ≡ rest → ⊥
-    no e = ne-eqb w w (and-r (bit rest w) (not (eqb w w)) (tr (bit-without rest w w w32 w32) (subst (λ (x : ℕ). T (bit x w)) (sym e) q))) refl
+gone-less {s = s} {rest = rest} w n32 m b =
+    without-less rest w (lt-of-lt-of-le (gone-below w m b) n32) (and-r (bit s w) (bit rest w) (tr (bit-and s rest w) b))
 
 -- what was found so far
 pub gone-seen : {n s rest : ℕ} {t : List ℕ} → Gone n t s rest → Seen false n t s 0

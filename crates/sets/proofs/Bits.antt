@@ -3,10 +3,11 @@ use mathlib.Core.Path.{_≡_, refl, sym, ap, ap₂, _∙_}
 use mathlib.Core.Bool.{Bool, true, false, not, _&&_, _||_}
 use mathlib.Core.List.{List}
 use Prim.Native.Nat.{ℕ, zero, suc, _+_, _-_, _*_, _^_, _≤_, _<_}
-use native.Mathlib.Nat.{add-sub-cancel-left, le-refl, eq-or-lt-of-le, le-of-suc-le-suc}
+use native.Mathlib.Nat.{add-sub-cancel-left, le-refl, eq-or-lt-of-le, le-of-suc-le-suc, lt-of-le-of-lt}
+use native.Mathlib.Numerals.{add-one}
 use native.Mathlib.Omega.{arith}
-use lib.Bits.{bitAnd, bitOr}
-use lib.Pow.{pow-pos}
+use lib.Bits.{bitAnd, bitOr, or-lt, and-le-r}
+use lib.Pow.{pow-pos, pow-lt}
 use mathlib.Core.Logic.{⊎-elim}
 use borrow.Author.Tests.{eq-eqb, ne-eqb, eqb-true}
 use Rattle.model.proofs.Bits.{bit-high, bit-or, bit-and, bit-one, or-none}
@@ -16,8 +17,9 @@ use lib.ListN.{getD, take, drop}
 use lib.Seq.{getD-take, getD-drop}
 use Rattle.model.specs.Recording.{bit}
 use Rattle.times.specs.Times.{cell}
-use Rattle.lists.specs.Tab.{anyOf}
-use Rattle.sets.specs.Marks.{markOf, marks, someOf, setOf}
+use Rattle.lists.specs.Tab.{tab, kept, zeros, anyOf}
+use Rattle.lists.proofs.Tab.{getD-tab, tab-ext, tab-zero}
+use Rattle.sets.specs.Marks.{markOf, marks, someOf, setOf, markedRow, ownRow}
 
 -- ---- the same of a lent row as of the table
 
@@ -91,3 +93,48 @@ some-none n t k v h l e = any-none (cell n t k) n (eqb-true _ _ (not-false-is _ 
 pub bit-set : (f : ℕ → ℕ) (n some u k : ℕ) → k < n → bit (setOf f n some u) k ≡ (not (eqb (f k) 0) || eqb u k) && bit some k
 unfolding setOf
 bit-set f n some u k h = simp (bit-and, bit-or, bit-one, bit-marks f n k h)
+
+-- ---- the sets of columns
+
+-- a set is made of the times below n
+pub set-ext : (f g : ℕ → ℕ) (n some u : ℕ) → ((i : ℕ) → i < n → f i ≡ g i) → setOf f n some u ≡ setOf g n some u
+unfolding setOf
+set-ext f g n some u h = ap (λ (x : ℕ). bitAnd (bitOr x (2 ^ u)) some) (marks-ext f g n h)
+
+-- no board yet
+pub columns-none : (n : ℕ) (half : List ℕ) → zeros n ≡ tab (λ u. marks (λ w. cell n half w u) 0) n
+unfolding marks
+columns-none n half = sym (tab-zero n) ∙ tab-ext _ _ n (λ v h. refl)
+
+-- a turn: row w is lent
+pub columns-next : (n : ℕ) (half : List ℕ) (w : ℕ) (sets : List ℕ) → sets ≡ tab (λ u. marks (λ i. cell n half i u) w) n
+    → tab (markedRow sets (λ v. getD (take (w * n + n - w * n) (drop (w * n) half)) v 0) w) n ≡ tab (λ u. marks (λ i. cell n half i u) (w + 1)) n
+unfolding marks markedRow
+columns-next n half w sets e =
+    tab-ext _ _ n (λ v h.
+    let a : getD sets v 0 ≡ marks (λ i. cell n half i v) w = rw e (getD-tab (λ u. marks (λ i. cell n half i u) w) n v h) in
+    rw (add-one w) (ap₂ (λ (x y : ℕ). bitOr x (markOf y w)) a (row-cell n w half v h)))
+
+-- all of them
+pub columns-own : (n some : ℕ) (half sets : List ℕ) → sets ≡ tab (λ u. marks (λ w. cell n half w u) n) n
+    → tab (ownRow sets some) n ≡ tab (λ u. setOf (λ w. cell n half w u) n some u) n
+unfolding ownRow setOf
+columns-own n some half sets e =
+    tab-ext _ _ n (λ u h.
+    let a : getD sets u 0 ≡ marks (λ w. cell n half w u) n = rw e (getD-tab (λ i. marks (λ w. cell n half w i) n) n u h) in
+    ap (λ (x : ℕ). bitAnd (bitOr x (2 ^ u)) some) a)
+
+-- ---- a set has boards below n alone
+
+marks-lt : (f : ℕ → ℕ) (n k : ℕ) → k ≤ n → marks f k < 2 ^ n
+unfolding marks markOf
+marks-lt f n zero h = pow-pos n
+marks-lt f n (suc k) h = or-lt n (marks f k) (markOf (f k) k) (marks-lt f n k (omega arith)) (by (not (eqb (f k) 0)))
+  where
+    by : (b : Bool) → kept b (2 ^ k) < 2 ^ n
+    by true = pow-lt {j = n} h
+    by false = pow-pos n
+
+pub set-lt : (f : ℕ → ℕ) (n : ℕ) (t : List ℕ) (u : ℕ) → setOf f n (someOf n t) u < 2 ^ n
+unfolding setOf someOf
+set-lt f n t u = lt-of-le-of-lt (and-le-r (bitOr (marks f n) (2 ^ u)) (marks (λ w. anyOf (cell n t w) n) n)) (marks-lt _ n n (le-refl n))

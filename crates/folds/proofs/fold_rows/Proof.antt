@@ -22,7 +22,7 @@ loop-holds c = rowed-start (c .before .before .before .pre .1 .1 .0)
 write-fold-requires : tie.Need-write-fold-requires Inv-loop μ-loop
 write-fold-requires c κs =
     let p = c .before .before .before .before .before .before .pre in
-    shared (p .0) (p .1 .0) (p .1 .1 .1) (c .before .loop-test .taken) (c .before .before .loop .inv)
+    shared (p .0) (p .1 .0) (p .1 .1 .1 .0) (p .1 .1 .1 .1) (c .before .loop-test .taken) (c .before .before .loop .inv)
 
 add-u : tie.Need-add-u Inv-loop μ-loop
 add-u c = search needs

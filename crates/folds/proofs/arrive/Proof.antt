@@ -1,0 +1,54 @@
+-- `folds::arrive` meets its contract. The sets, the folds, and the rows with their folds (`crossed-rows`).
+-- Assumes nothing.
+use mathlib.Core.Path.{_∙_}
+use mathlib.Core.Bool.{false}
+use Rattle.times.specs.Times.{cell}
+use Rattle.folds.proofs.Gathered.{crossed-rows, small-sets}
+use borrow.Author.Needs.{needs}
+use Rattle.folds.proofs.arrive.Statement.{statement}
+use Rattle.folds.proofs.arrive.Tie as tie
+
+some-rows-requires : tie.Need-some-rows-requires
+some-rows-requires c κs = search needs
+
+write-requires : tie.Need-write-requires
+write-requires c κs = search needs
+
+fold-rows-requires : tie.Need-fold-rows-requires
+fold-rows-requires c κs =
+    let c4 = c .before .before .before .before in
+    let c12 = c4 .before .before .before .before .before .before .before .before in
+    let p = c12 .pre in
+    (p .0, (search needs, (p .1 .1 .1 .1 .1, (p .1 .1 .1 .0, small-sets (c12 .args .n) (cell (c12 .args .n) (c12 .args .earlier .now)) (c12 .args .later .now) _ (c4 .write .ensures ∙ simp (c4 .before .before .some-rows .ensures))))))
+
+cross-rows-requires : tie.Need-cross-rows-requires
+cross-rows-requires c κs = search needs
+
+same-length : tie.Need-same-length
+same-length c = search needs
+
+same-length-2 : tie.Need-same-length-2
+same-length-2 c = search needs
+
+same-length-3 : tie.Need-same-length-3
+same-length-3 c = search needs
+
+returns : tie.Need-returns
+returns c =
+    let c7 = c .before .before .before .before .before .before .before in
+    let c12 = c7 .before .before .before .before .before in
+    let c20 = c12 .before .before .before .before .before .before .before .before in
+    c .before .before .cross-rows .ensures ∙ crossed-rows false (c20 .args .n) (c20 .args .earlier .now) (c20 .args .later .now) _ _ (c12 .write .ensures ∙ simp (c12 .before .before .some-rows .ensures)) (c7 .fold-rows .ensures)
+
+pub arrive-spec : {M : Type 1} → statement M
+arrive-spec =
+    tie.close
+    (tie.spec
+    some-rows-requires
+    write-requires
+    fold-rows-requires
+    cross-rows-requires
+    same-length
+    same-length-2
+    same-length-3
+    returns)

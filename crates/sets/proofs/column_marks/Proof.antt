@@ -1,0 +1,89 @@
+-- `sets::column_marks` meets its contract. The invariant is the definition at w; a turn is `columns-next`.
+-- Assumes nothing.
+use mathlib.Core.Path.{_≡_, sym, _∙_}
+use Prim.Native.Nat.{_-_, _≤_}
+use native.Mathlib.Omega.{arith}
+use native.Mathlib.Nat.{le-of-eq}
+use lib.ListN.{length}
+use Rattle.lists.specs.Tab.{tab}
+use Rattle.times.specs.Times.{cell}
+use Rattle.times.proofs.Rows.{row-le, part-length}
+use Rattle.sets.specs.Marks.{marks}
+use Rattle.sets.proofs.Bits.{columns-none, columns-next}
+use borrow.Author.Needs.{needs}
+use Rattle.sets.proofs.column_marks.Statement.{statement}
+use Rattle.sets.proofs.column_marks.Tie as tie
+
+abbrev Inv-loop : tie.InvT-loop
+Inv-loop sets₀ half n w₀ sets w = (w ≤ n) × ((length sets ≡ n) × (sets ≡ tab (λ u. marks (λ i. cell n half i u) w) n))
+
+abbrev μ-loop : tie.MeasureT-loop
+μ-loop sets₀ half n w₀ sets w = n - w
+
+loop-holds : tie.Need-loop-holds Inv-loop μ-loop
+loop-holds c = (search needs, (search needs, c .before .before .pre .1 .0 ∙ columns-none (c .before .before .args .n) (c .before .before .args .half .now)))
+
+mul-at : tie.Need-mul-at Inv-loop μ-loop
+mul-at c = omega (arith, row-le _ (c .loop-test .taken))
+
+add-add-marks : tie.Need-add-add-marks Inv-loop μ-loop
+add-add-marks c = omega (arith, row-le _ (c .before .loop-test .taken))
+
+mul-add-marks : tie.Need-mul-add-marks Inv-loop μ-loop
+mul-add-marks c = omega (arith, row-le _ (c .before .loop-test .taken))
+
+sub-add-marks : tie.Need-sub-add-marks Inv-loop μ-loop
+sub-add-marks c = search needs
+
+part-add-marks-start : tie.Need-part-add-marks-start Inv-loop μ-loop
+part-add-marks-start c = search needs
+
+part-add-marks-end : tie.Need-part-add-marks-end Inv-loop μ-loop
+part-add-marks-end c = omega (arith, row-le _ (c .before .loop-test .taken))
+
+add-marks-requires : tie.Need-add-marks-requires Inv-loop μ-loop
+add-marks-requires c κs =
+    (search needs, (sym (c .before .before .before .loop .inv .1 .0), le-of-eq (part-length _ _ _ (omega (arith, row-le _ (c .before .before .loop-test .taken))))))
+
+add-w : tie.Need-add-w Inv-loop μ-loop
+add-w c = search needs
+
+loop-less : tie.Need-loop-less Inv-loop μ-loop
+loop-less c = search needs
+
+loop-again : tie.Need-loop-again Inv-loop μ-loop
+loop-again c =
+    let c6 = c .before .before .before .before .before .before in
+    let c9 = c6 .before .before .before in (
+      search needs,
+      (
+        c .before .before .add-marks .kept .0 ∙ c6 .loop .inv .1 .0,
+        c .before .before .add-marks .ensures ∙ columns-next (c9 .args .n) (c9 .args .half .now) (c6 .loop .w) (c6 .loop .sets) (c6 .loop .inv .1 .1),
+      ),
+    )
+
+same-length : tie.Need-same-length Inv-loop μ-loop
+same-length c = search needs
+
+returns : tie.Need-returns Inv-loop μ-loop
+returns c = let e : c .before .loop .w ≡ c .before .before .before .before .args .n = omega arith in rw e at (c .before .loop .inv .1 .1)
+
+pub column-marks-spec : {M : Type 1} → statement M
+column-marks-spec =
+    tie.close
+    (tie.spec
+    Inv-loop
+    μ-loop
+    loop-holds
+    mul-at
+    add-add-marks
+    mul-add-marks
+    sub-add-marks
+    part-add-marks-start
+    part-add-marks-end
+    add-marks-requires
+    add-w
+    loop-less
+    loop-again
+    same-length
+    returns)
