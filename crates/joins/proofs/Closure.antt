@@ -1,24 +1,25 @@
 -- Warshall's closure marks the pairs joined within a pick by at most 31 links, on the words as they are found. Assumes nothing.
 use mathlib.Core.Path.{_≡_, sym, ap, _∙_, subst}
 use mathlib.Core.Logic.{_≢_, _⊎_, inl, inr, ⊎-elim, _↔_}
-use mathlib.Core.Bool.{Bool, _||_, _&&_, not}
+use mathlib.Core.Bool.{Bool, false, _||_, _&&_, not}
 use mathlib.Core.List.{List}
 use Prim.Native.Nat.{ℕ, zero, suc, _^_, _≤_, _<_}
 use native.Mathlib.Nat.{not-suc-le-zero, le-of-suc-le-suc, eq-or-lt-of-le, lt-of-lt-of-le, le-of-lt, le-suc, le-refl}
 use native.Mathlib.Omega.{arith}
+use lib.Bits.{bitOr, or-zero-r}
 use lib.Dec.{T, eqb}
 use lib.ListN.{length, getD}
 use lib.Seq.{ext-getD}
 use Rattle.model.specs.Recording.{bit, link}
-use Rattle.model.proofs.Logic.{tr, bool-ext, or-l, or-r, or-cases, and-both, and-l, and-r, eqb-ne, ne-eqb}
+use Rattle.model.proofs.Logic.{tr, F→≡, bool-ext, or-l, or-r, or-cases, and-both, and-l, and-r, eqb-ne, ne-eqb}
 use Rattle.model.proofs.Bits.{bits-ext, bit-or}
-use Rattle.lists.specs.Tab.{kept}
+use Rattle.lists.specs.Tab.{tab, kept}
 use Rattle.lists.proofs.Tab.{length-tab, getD-tab}
 use Rattle.links.specs.Tables.{within}
 use Rattle.links.proofs.Bits.{link-tab, bit-kept, bit-without, without-32}
 use Rattle.links.proofs.Ways.{Way, one, more, Led, onward, within-way, way-short, length-within, within-small}
 use Rattle.joins.specs.Columns.{columnRow}
-use Rattle.joins.specs.Warshall.{pass, passes, clearRow, closed}
+use Rattle.joins.specs.Warshall.{pass, passes, clearRow, closed, Into}
 
 -- ---- the passes
 
@@ -45,6 +46,21 @@ unfolding pass columnRow link
 pass-link n k u v t h =
     link-tab (columnRow t t (getD t k 0) k) n u v h ∙ bit-or (getD t u 0) (kept (bit (getD t u 0) k) (getD t k 0)) v
     ∙ ap (λ (b : Bool). bit (getD t u 0) v || b) (bit-kept (bit (getD t u 0) k) (getD t k 0) v)
+
+-- a pass leads to no further board
+pub into-pass : {n : ℕ} {t : List ℕ} {into : ℕ} (k : ℕ) → k < n → Into n t into → Into n (pass n t k) into
+into-pass {n} {t} {into} k h m = record {
+  led = λ u w l b. ⊎-elim (m .led u w l) (λ (a : T (link t u k && link t k w)). m .led k w h (and-r (link t u k) (link t k w) a)) (or-cases (link t u w) (link t u k && link t k w) (tr (pass-link n k u w t l) b));
+}
+
+-- where no row links to k it changes nothing
+pub no-pass : {n : ℕ} {t : List ℕ} {into : ℕ} (k : ℕ) → Into n t into → bit into k ≡ false → n ≡ length t → t ≡ pass n t k
+unfolding pass columnRow
+no-pass {n} {t} {into} k m z e =
+    let l = length-tab (columnRow t t (getD t k 0) k) n in
+    ext-getD 0 t (tab (columnRow t t (getD t k 0) k) n) (sym (l ∙ e))
+    (λ u h. let b : u < n = omega arith in
+    sym (getD-tab (columnRow t t (getD t k 0) k) n u b ∙ ap (λ (x : Bool). bitOr (getD t u 0) (kept x (getD t k 0))) (F→≡ (link t u k) (λ q. tr z (m .led u k b q))) ∙ or-zero-r (getD t u 0)))
 
 -- after k passes a bit is a way over boards below k
 passes-way : (n : ℕ) (t : List ℕ) (k : ℕ) → k ≤ n → (u v : ℕ) → u < n → T (link (passes n t k) u v) ↔ Led t k u v

@@ -20,6 +20,7 @@ use Rattle.links.specs.Tables.{without, within, pairFull, rowFull, full, connec
 use Rattle.links.proofs.Bits.{link-tab, bit-without, without-32}
 use Rattle.links.proofs.Ways.{one, Short, snoc, last-link, within-way, way-short, length-within, within-small}
 use Rattle.searches.proofs.Search.{pair-out}
+use Rattle.joins.specs.Warshall.{Into}
 
 -- the boards that a link of the first k rows leads to
 abbrev pub ledTo : List ℕ → ℕ → ℕ
@@ -35,6 +36,9 @@ led-in t (suc n) w v h l =
     tr (sym (led-step t n v))
     (⊎-elim (λ (e : w ≡ n). or-r (bit (ledTo t n) v) (link t n v) (subst (λ (x : ℕ). T (link t x v)) e l))
     (λ (q : w < n). or-l (bit (ledTo t n) v) (link t n v) (led-in t n w v q l)) (eq-or-lt-of-le (le-of-suc-le-suc h)))
+
+pub led-into : (n : ℕ) (t : List ℕ) {into : ℕ} → into ≡ ledTo t n → Into n t into
+led-into n t e = record { led = λ u w h l. rw e (led-in t n u w h l) }
 
 led-out : (t : List ℕ) (n v : ℕ) → T (bit (ledTo t n) v) → (w : ℕ) × (w < n) × T (link t w v)
 unfolding anyOf

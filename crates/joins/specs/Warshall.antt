@@ -1,8 +1,10 @@
 -- Warshall's closure, as the code makes it: after k passes a bit says that links lead there over boards below k. `proofs/Closure` has the law:
 -- it is `within n 31`.
 use mathlib.Core.List.{List}
-use Prim.Native.Nat.{ℕ, zero, suc}
+use Prim.Native.Nat.{ℕ, zero, suc, _<_}
+use lib.Dec.{T}
 use lib.ListN.{getD}
+use Rattle.model.specs.Recording.{bit, link}
 use Rattle.lists.specs.Tab.{tab}
 use Rattle.links.specs.Tables.{without}
 use Rattle.joins.specs.Columns.{columnRow}
@@ -22,3 +24,7 @@ clearRow t u = without (getD t u 0) u
 
 unfoldable pub closed : ℕ → List ℕ → List ℕ
 closed n t = tab (clearRow (passes n t n)) n
+
+-- the rows below n link to boards of `into` alone
+pub record Into (n : ℕ) (t : List ℕ) (into : ℕ) : Type 0 where
+  pub led : (u w : ℕ) → u < n → T (link t u w) → T (bit into w)

@@ -6,7 +6,7 @@ ghost use lib.ListN.{length};
 ghost use Rattle.lists.specs.Tab.{tab, padded};
 ghost use Rattle.links.specs.Tables.{union, throughRow, compose, within};
 ghost use Rattle.joins.specs.Columns.{columnRow, fourRow};
-ghost use Rattle.joins.specs.Warshall.{pass, passes, clearRow};
+ghost use Rattle.joins.specs.Warshall.{pass, passes, clearRow, Into};
 use model::Board;
 
 // The bits of the boards' own links are cleared.
@@ -109,12 +109,25 @@ fn pass_over(t: &mut [u32], b: Board, n: usize)
     }
 }
 
+// The same; where no row links to b it is left out.
+fn pass_if(t: &mut [u32], into: u32, b: Board, n: usize)
+    requires { ⌜ (n ≤ 32) × ((b .0 < n) × ((n ≡ length (now t)) × Into n (now t) into)) ⌝ }
+    ensures { λ _. ⌜ now (t .exit) ≡ pass n (now (t .entry)) (b .0) ⌝ }
+{
+    if !links::linked(into, b) {
+        return;
+    }
+    pass_over(t, b, n);
+}
+
+// A pass leads to no board that no link led to before, so the boards that some link leads to are looked up once.
 fn pass_over_all(t: &mut [u32], n: usize)
     requires { ⌜ (n ≤ 32) × (n ≡ length (now t)) ⌝ }
     ensures { λ _. ⌜ now (t .exit) ≡ passes n (now (t .entry)) n ⌝ }
 {
+    let into = lists::any_of(t, n);
     for w in 0..n {
-        pass_over(t, Board(w), n);
+        pass_if(t, into, Board(w), n);
     }
 }
 
