@@ -1,6 +1,6 @@
 -- What a part holds after one is written: the part written, and every other one, and the words beyond, as they were. The area has room for
 -- N parts of E words. Assumes nothing.
-use mathlib.Core.Path.{_≡_, sym, ap, _∙_}
+use mathlib.Core.Path.{_≡_, sym, ap, ap₂, _∙_}
 use mathlib.Core.Logic.{_≢_, ⊎-elim}
 use mathlib.Core.Bool.{Bool, true, false}
 use mathlib.Core.List.{List, _++_, append-assoc}
@@ -75,6 +75,11 @@ module _ (E at : ℕ) (a t : List ℕ) (size : length t ≡ E) (room : at + E �
       ∙ drop-drop d (at + E) a
       ∙ ap (λ (m : ℕ). drop m a) f
 
+  -- other words put at the same place
+  words-again : (u : List ℕ)
+      → take at (take at a ++ (t ++ drop E (drop at a))) ++ (u ++ drop E (drop at (take at a ++ (t ++ drop E (drop at a))))) ≡ take at a ++ (u ++ drop E (drop at a))
+  words-again u = rw (take-at (take at a) (t ++ drop E (drop at a)) at head-long, drop-at (take at a) (t ++ drop E (drop at a)) at head-long, drop-at t (drop E (drop at a)) E size)
+
 -- ---- a table put as a part
 
 module _ (E N : ℕ) (a : List ℕ) (room : N * E ≤ length a) (i : ℕ) (low : 1 ≤ i) (high : i ≤ N) (t : List ℕ) (size : length t ≡ E) where
@@ -96,6 +101,10 @@ module _ (E N : ℕ) (a : List ℕ) (room : N * E ≤ length a) (i : ℕ) (low :
       ⊎-elim (λ (l : i ≤ j). ap (take E) (words-after E ((i - 1) * E) a t size lies ((j - 1) * E) (apart E i j low (omega arith))))
       (λ (l : j < i). words-before E ((i - 1) * E) a t size lies ((j - 1) * E) (apart E j i h l))
       (le-or-lt i j)
+
+  pub put-again : (u : List ℕ) → putPart E (putPart E a i t) i u ≡ putPart E a i u
+  unfolding putPart
+  put-again u = words-again E ((i - 1) * E) a t size lies u
 
   pub put-beyond : drop (N * E) (putPart E a i t) ≡ drop (N * E) a
   unfolding putPart
@@ -216,6 +225,15 @@ module _ (K : Kit) (N : ℕ) (a : List ℕ) (room : N * K .width ≤ length a) (
     pub copy-beyond : drop (N * K .width) (copyAt K a d l) ≡ drop (N * K .width) a
     unfolding copyAt
     copy-beyond = put-beyond (K .width) N a room d low high (part (K .width) a l) (length-part (K .width) N a l room llow lhigh)
+
+    copy-again : (u : List ℕ) → putPart (K .width) (copyAt K a d l) d u ≡ putPart (K .width) a d u
+    unfolding copyAt
+    copy-again u = put-again (K .width) N a room d low high (part (K .width) a l) (length-part (K .width) N a l room llow lhigh) u
+
+    -- a part composed onto a copy
+    pub compose-copied : (r : ℕ) → 1 ≤ r → r ≢ d → composeAt K (copyAt K a d l) d d r ≡ composeAt K a d l r
+    unfolding composeAt
+    compose-copied r rlow ne = ap₂ (λ (s t : List ℕ). putPart (K .width) (copyAt K a d l) d (K .join s t)) copy-same (copy-other r rlow ne) ∙ copy-again _
 
   pub zero-length : length (zeroAt K a d) ≡ length a
   unfolding zeroAt

@@ -1,21 +1,16 @@
 // Parts of a lent area: part i, of E words, begins at word (i - 1) × E, for i from 1 on. Each function but `zero_first` changes one part at most.
-// What a composition reads is copied first: a part that is written and one that is read cannot be lent at the same time. The copies go into
-// arrays of the function that lends them, for an array by value is copied again on its way back.
+// The later table that a composition reads is copied first: a part that is written and one that is read cannot be lent at the same time.
 ghost use mathlib.Core.Path.{_≡_};
-ghost use Prim.Native.Nat.{_^_, _≤_, _<_};
+ghost use mathlib.Core.Logic.{_≢_};
+ghost use Prim.Native.Nat.{_+_, _*_, _^_, _≤_, _<_};
 ghost use lib.ListN.{length};
-ghost use Rattle.lists.specs.Tab.{zeros};
-ghost use Rattle.measures.specs.Kit.{kit, widthOf, joinOf};
+ghost use Rattle.links.specs.Tables.{compose};
+ghost use Rattle.times.specs.Times.{composeTimes};
+ghost use Rattle.measures.specs.Kit.{kit, widthOf, ownOf, joinOf, passOf};
 ghost use Rattle.area.specs.Parts.{Has, part, putPart, composeAt, copyAt, zeroAt, ownAt, zeroed};
 use model::Pick;
 
 // ---- copies of parts
-
-fn no_times() -> [u32; 2048]
-    ensures { λ r. ⌜ r ≡ zeros 2048 ⌝ }
-{
-    [0u32; 2048]
-}
 
 // Copies part i over out, which has the words of a part.
 fn take_part(out: &mut [u32], area: &[u32], e: usize, i: usize)
@@ -37,93 +32,107 @@ pub fn put_part(area: &mut [u32], words: &[u32], e: usize, d: usize)
     lists::copy_over(&mut area[at..at + e], words, e);
 }
 
-// Lends part d to the composition of left, the earlier, and right, the later.
-fn compose_into(area: &mut [u32], left: &[u32], right: &[u32], measure: usize, n: usize, d: usize)
-    requires { ⌜ (n ≤ 32) × (Has (widthOf measure n) (length (now area)) d × ((widthOf measure n ≤ length (now left)) × (widthOf measure n ≤ length (now right)))) ⌝ }
-    ensures { λ _. ⌜ now (area .exit) ≡ putPart (widthOf measure n) (now (area .entry)) d (joinOf measure n (now (left .entry)) (now (right .entry))) ⌝ }
+// Composes words, the later table, onto part d, the earlier: for the measures whose tables compose word by word.
+fn compose_with(area: &mut [u32], words: &[u32], measure: usize, n: usize, d: usize)
+    requires { ⌜ (measure ≢ 4) × (measure ≢ 3) × (n ≤ length (now words)) × Has n (length (now area)) d ⌝ }
+    ensures { λ _. ⌜ now (area .exit) ≡ putPart n (now (area .entry)) d (joinOf measure n (part n (now (area .entry)) d) (now (words .entry))) ⌝ }
 {
-    let e = measures::width(measure, n);
-    let at = (d - 1) * e;
-    measures::compose(&mut area[at..at + e], left, right, measure, n);
+    let at = (d - 1) * n;
+    measures::compose_words(&mut area[at..at + n], words, measure, n);
 }
 
-// Composes by way of left and right, which have a part's words each and take the copies.
-fn compose_by(
+// The same of part r, by way of right, which takes its copy.
+fn compose_words_by(
     area: &mut [u32],
-    left: &mut [u32],
     right: &mut [u32],
     measure: usize,
     n: usize,
     d: usize,
-    l: usize,
     r: usize,
 )
-    requires { ⌜ (n ≤ 32) × ((widthOf measure n ≡ length (now left)) × ((widthOf measure n ≡ length (now right)) × (Has (widthOf measure n) (length (now area)) d × (Has (widthOf measure n) (length (now area)) l × Has (widthOf measure n) (length (now area)) r)))) ⌝ }
-    ensures { λ _. ⌜ now (area .exit) ≡ composeAt (kit measure n) (now (area .entry)) d l r ⌝ }
-{
-    let e = measures::width(measure, n);
-    take_part(left, area, e, l);
-    take_part(right, area, e, r);
-    compose_into(area, left, right, measure, n, d);
-}
-
-// Composes where a table is no longer than 32 words: the copies are small.
-fn compose_links(area: &mut [u32], measure: usize, n: usize, d: usize, l: usize, r: usize)
-    requires { ⌜ (widthOf measure n ≤ 32) × ((n ≤ 32) × (Has (widthOf measure n) (length (now area)) d × (Has (widthOf measure n) (length (now area)) l × Has (widthOf measure n) (length (now area)) r))) ⌝ }
-    ensures { λ _. ⌜ now (area .exit) ≡ composeAt (kit measure n) (now (area .entry)) d l r ⌝ }
-{
-    let e = measures::width(measure, n);
-    let mut left = lists::no_words();
-    let mut right = lists::no_words();
-    compose_by(area, &mut left[0..e], &mut right[0..e], measure, n, d, l, r);
-}
-
-// Composes tables of any measure: only measure 4 needs copies of 2048 words.
-fn compose_times(area: &mut [u32], measure: usize, n: usize, d: usize, l: usize, r: usize)
-    requires { ⌜ (n ≤ 32) × (Has (widthOf measure n) (length (now area)) d × (Has (widthOf measure n) (length (now area)) l × Has (widthOf measure n) (length (now area)) r)) ⌝ }
-    ensures { λ _. ⌜ now (area .exit) ≡ composeAt (kit measure n) (now (area .entry)) d l r ⌝ }
-{
-    let e = measures::width(measure, n);
-    let mut left = no_times();
-    let mut right = no_times();
-    compose_by(area, &mut left[0..e], &mut right[0..e], measure, n, d, l, r);
-}
-
-// Composes part r onto part d by way of right, which has a part's words and takes the copy.
-fn compose_onto(area: &mut [u32], right: &mut [u32], measure: usize, n: usize, d: usize, r: usize)
-    requires { ⌜ (measure ≤ 2) × ((n ≡ length (now right)) × (Has n (length (now area)) d × Has n (length (now area)) r)) ⌝ }
+    requires { ⌜ (measure ≢ 4) × (measure ≢ 3) × (n ≡ length (now right)) × Has n (length (now area)) d × Has n (length (now area)) r ⌝ }
     ensures { λ _. ⌜ now (area .exit) ≡ putPart n (now (area .entry)) d (joinOf measure n (part n (now (area .entry)) d) (part n (now (area .entry)) r)) ⌝ }
 {
     take_part(right, area, n, r);
-    let at = (d - 1) * n;
-    measures::compose_over(&mut area[at..at + n], right, measure, n);
+    compose_with(area, right, measure, n, d);
 }
 
-// Composes part r onto part d where the words compose one by one: only what is read alone is copied.
+// Composes part r onto part d under measures 1 and 2. The copy of so few words costs less in an array of its own than in one that is lent: the compiler
+// then knows that it overlaps nothing.
 fn compose_words(area: &mut [u32], measure: usize, n: usize, d: usize, r: usize)
-    requires { ⌜ (n ≤ 32) × ((measure ≤ 2) × (Has n (length (now area)) d × Has n (length (now area)) r)) ⌝ }
+    requires { ⌜ (n ≤ 32) × (measure ≢ 4) × (measure ≢ 3) × Has n (length (now area)) d × Has n (length (now area)) r ⌝ }
     ensures { λ _. ⌜ now (area .exit) ≡ putPart n (now (area .entry)) d (joinOf measure n (part n (now (area .entry)) d) (part n (now (area .entry)) r)) ⌝ }
 {
     let mut right = lists::no_words();
-    compose_onto(area, &mut right[0..n], measure, n, d, r);
+    compose_words_by(area, &mut right[0..n], measure, n, d, r);
 }
 
-// Part d becomes the composition of part l, the earlier, and part r, the later; d may be l or r.
-pub fn compose_parts(area: &mut [u32], measure: usize, n: usize, d: usize, l: usize, r: usize)
-    requires { ⌜ (n ≤ 32) × (Has (widthOf measure n) (length (now area)) d × (Has (widthOf measure n) (length (now area)) l × Has (widthOf measure n) (length (now area)) r)) ⌝ }
-    ensures { λ _. ⌜ now (area .exit) ≡ composeAt (kit measure n) (now (area .entry)) d l r ⌝ }
+// Composes part r onto part d under measure 3, by way of right, which takes the copy of part r.
+fn compose_links(area: &mut [u32], right: &mut [u32], n: usize, d: usize, r: usize)
+    requires { ⌜ (n ≤ 32) × (n ≡ length (now right)) × Has n (length (now area)) d × Has n (length (now area)) r ⌝ }
+    ensures { λ _. ⌜ now (area .exit) ≡ putPart n (now (area .entry)) d (compose n (part n (now (area .entry)) d) (part n (now (area .entry)) r)) ⌝ }
+{
+    take_part(right, area, n, r);
+    let at = (d - 1) * n;
+    joins::join_over(&mut area[at..at + n], right, n);
+}
+
+// The same under measure 4.
+fn compose_times(area: &mut [u32], right: &mut [u32], n: usize, d: usize, r: usize)
+    requires { ⌜ (n ≤ 32) × (n * n + n * n ≡ length (now right)) × Has (n * n + n * n) (length (now area)) d × Has (n * n + n * n) (length (now area)) r ⌝ }
+    ensures { λ _. ⌜ now (area .exit) ≡ putPart (n * n + n * n) (now (area .entry)) d (composeTimes n (part (n * n + n * n) (now (area .entry)) d) (part (n * n + n * n) (now (area .entry)) r)) ⌝ }
+{
+    let e = n * n + n * n;
+    take_part(right, area, e, r);
+    let at = (d - 1) * e;
+    folds::compose_over(&mut area[at..at + e], right, n);
+}
+
+// Composes part r, the later, onto part d, the earlier. right has a part's words; what it holds before and after is free.
+pub fn compose_onto(
+    area: &mut [u32],
+    right: &mut [u32],
+    measure: usize,
+    n: usize,
+    d: usize,
+    r: usize,
+)
+    requires { ⌜ (n ≤ 32) × (widthOf measure n ≡ length (now right)) × Has (widthOf measure n) (length (now area)) d × Has (widthOf measure n) (length (now area)) r ⌝ }
+    ensures { λ _. ⌜ now (area .exit) ≡ composeAt (kit measure n) (now (area .entry)) d d r ⌝ }
 {
     if measure == 4 {
-        compose_times(area, measure, n, d, l, r);
+        compose_times(area, right, n, d, r);
         return;
     }
-    if d == l {
-        if measure <= 2 {
-            compose_words(area, measure, n, d, r);
-            return;
-        }
+    if measure == 3 {
+        compose_links(area, right, n, d, r);
+        return;
     }
-    compose_links(area, measure, n, d, l, r);
+    compose_words(area, measure, n, d, r);
+}
+
+// The same where part r is the own table of pick r. Under measures 1 and 2 that is the pick's words, which are composed from where they are.
+pub fn compose_own(
+    area: &mut [u32],
+    words: &[u32],
+    right: &mut [u32],
+    measure: usize,
+    n: usize,
+    d: usize,
+    r: usize,
+)
+    requires { ⌜ (n ≤ 32) × (widthOf measure n ≡ length (now right)) × Has (widthOf measure n) (length (now area)) d × Has (widthOf measure n) (length (now area)) r × (n ≡ length (now words)) × (part (widthOf measure n) (now area) r ≡ ownOf 31 measure n r (now words)) ⌝ }
+    ensures { λ _. ⌜ now (area .exit) ≡ composeAt (kit measure n) (now (area .entry)) d d r ⌝ }
+{
+    if measure == 4 {
+        compose_times(area, right, n, d, r);
+        return;
+    }
+    if measure == 3 {
+        compose_links(area, right, n, d, r);
+        return;
+    }
+    compose_with(area, words, measure, n, d);
 }
 
 // Copies by way of words, which has a part's words and takes the copy.
@@ -149,7 +158,7 @@ fn copy_times(area: &mut [u32], e: usize, d: usize, l: usize)
     requires { ⌜ (e ≤ 2048) × (Has e (length (now area)) d × Has e (length (now area)) l) ⌝ }
     ensures { λ _. ⌜ now (area .exit) ≡ putPart e (now (area .entry)) d (part e (now (area .entry)) l) ⌝ }
 {
-    let mut words = no_times();
+    let mut words = lists::no_times();
     copy_by(area, &mut words[0..e], e, d, l);
 }
 
@@ -198,6 +207,32 @@ pub fn passes_part(area: &[u32], measure: usize, n: usize, footprint: usize, win
     let from = (footprint - 1) * e;
     let at = (window - 1) * e;
     measures::passes(&area[from..from + e], &area[at..at + e], measure, n)
+}
+
+// Whether the composition of parts l and r would pass under measures 2 and 3: nothing is written.
+pub fn joined_passes(
+    area: &[u32],
+    measure: usize,
+    n: usize,
+    footprint: usize,
+    l: usize,
+    r: usize,
+) -> bool
+    requires { ⌜ (n ≤ 32) × (measure ≢ 4) × (measure ≢ 3 → measure ≡ 2) × Has n (length (now area)) footprint × Has n (length (now area)) l × Has n (length (now area)) r ⌝ }
+    ensures { λ x. ⌜ x ≡ passOf 0 measure n (part n (now (area .entry)) footprint) (joinOf measure n (part n (now (area .entry)) l) (part n (now (area .entry)) r)) ⌝ }
+{
+    let from = (footprint - 1) * n;
+    let at = (l - 1) * n;
+    let to = (r - 1) * n;
+    if measure == 3 {
+        return joins::joins_full(&area[at..at + n], &area[to..to + n], n);
+    }
+    links::is_union(
+        &area[from..from + n],
+        &area[at..at + n],
+        &area[to..to + n],
+        n,
+    )
 }
 
 // ---- many parts at once

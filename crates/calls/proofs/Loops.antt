@@ -1,13 +1,14 @@
 -- The loops of a whole run, and what it leaves. Assumes nothing.
 use mathlib.Core.Path.{_≡_, refl, sym, ap, ap₂, _∙_, subst}
-use mathlib.Core.Bool.{Bool, true, false}
+use mathlib.Core.Logic.{_≢_}
+use mathlib.Core.Bool.{Bool, true, false, not}
 use mathlib.Core.List.{List, _++_}
 use Prim.Native.Nat.{ℕ, zero, suc, _+_, _-_, _*_, _≤_, _<_, zero-le}
-use native.Mathlib.Nat.{le-refl}
+use native.Mathlib.Nat.{le-refl, add-zero, zero-add}
 use native.Mathlib.Numerals.{add-one}
 use native.Mathlib.Omega.{arith}
-use borrow.Author.Tests.{eq-eqb, ne-eqb}
-use lib.Dec.{eqb}
+use borrow.Author.Tests.{eq-eqb, ne-eqb, ltb-true}
+use lib.Dec.{eqb, ltb}
 use lib.ListN.{length, take, drop}
 use Rattle.lists.specs.Tab.{zeros}
 use Rattle.lists.proofs.Tab.{length-tab, length-zeros}
@@ -16,18 +17,25 @@ use Rattle.checks.specs.Lent.{lentPick}
 use Rattle.checks.proofs.Lent.{lent-long, first-lent, first-room}
 use Rattle.measures.specs.Kit.{Kit, kit, widthOf, either}
 use Rattle.measures.proofs.Words.{width-links}
-use Rattle.area.specs.Parts.{putPart, zeroed}
+use Rattle.area.specs.Parts.{part, putPart, zeroAt, zeroed}
+use Rattle.area.proofs.Laws.{put-same, put-beyond, zeroed-part}
 use Rattle.place.specs.declared.Place.{Place}
-use Rattle.place.specs.Places.{fresh, charged}
+use Rattle.place.proofs.Laws.{and-left, and-right}
+use Rattle.place.specs.Places.{fresh, charged, pickTaken, picksTaken}
 use Rattle.verdicts.specs.Verdicts.{needed}
 use Rattle.verdicts.specs.Fit.{Runs}
-use Rattle.steps.specs.Walk.{State, state, kitOf, stepped}
+use Rattle.steps.specs.Walk.{State, state, kitOf, ended, stepped}
 use Rattle.steps.specs.Fit.{Takes, Ready, Does}
+use Rattle.steps.specs.Alike.{Alike, finished}
+use Rattle.steps.specs.Bare.{bareStep}
 use Rattle.steps.proofs.Fit.{charged-none}
-use Rattle.steps.proofs.Ready.{step-takes, stepped-framed, step-leaves}
-use Rattle.calls.specs.Calls.{openedArea, unions, stepsOf, wholeStart, wholeAfter}
-use Rattle.calls.specs.Fit.{Starts, Ends}
-use Rattle.calls.proofs.Opened.{opened-beyond}
+use Rattle.steps.proofs.Ready.{Stepped, step-takes, stepped-grown, stepped-framed, ready-on}
+use Rattle.steps.proofs.Alike.{StillAlike, alike-fresh, finished-step, finished-stays}
+use Rattle.steps.proofs.Bare.{bare-place, bare-whole, bare-walks, bare-frame}
+use Rattle.steps.proofs.Closes.{kept-one}
+use Rattle.calls.specs.Calls.{openedArea, unions, stepsOf, bareSteps, wholeStart, wholeAfter}
+use Rattle.calls.specs.Fit.{Starts, Begins, Ends}
+use Rattle.calls.proofs.Opened.{opened-length, opened-list}
 
 -- ---- the union of the picks
 
@@ -80,29 +88,49 @@ module _ {n m : ℕ} {w : List ℕ} {k made : ℕ} {t : List ℕ} (g : United n 
 
 -- ---- the start
 
--- under the other measures there is no footprint
-pub start-other : (n measure m : ℕ) (w a : List ℕ) {p : Place} {b : List ℕ} → (measure ≡ 2 → ⊥) → p ≡ fresh measure n m → b ≡ zeroed (needed measure n m) a
-    → state p b ≡ wholeStart n measure m w a
-unfolding wholeStart openedArea
-start-other n measure m w a ne f z = simp (ne-eqb measure 2 ne) (ap₂ state (f ∙ charged-none (fresh measure n m)) z)
+module _ (n measure m : ℕ) (w a : List ℕ) (f : Runs n measure m w a) where
+  abbrev E : ℕ
+  E = widthOf measure n
 
--- under measure 2 it is made in part m + 3
-pub start-footprint : (n measure m : ℕ) (w a : List ℕ) {p q : Place} {b t : List ℕ} → measure ≡ 2 → q ≡ fresh measure n m → b ≡ zeroed (needed measure n m) a
-    → (p ≡ charged q (m - 1)) × (t ≡ unions n w m)
-    → state p (take ((m + 2) * n) b ++ (t ++ drop n (drop ((m + 2) * n) b))) ≡ wholeStart n measure m w a
-unfolding wholeStart openedArea putPart
-start-footprint n measure m w a two f z u =
-    let i : m + 2 ≡ m + 3 - 1 = omega arith in
-    let e = width-links measure n (λ x. omega arith) in
-    simp (eq-eqb measure 2 two) (ap₂ state (u .0 ∙ ap (λ (x : Place). charged x (m - 1)) f) (simp (z, u .1, e, i)))
+  united : length (unions n w m) ≡ n
+  united = let z = f .words in length-unions n w m (omega arith)
+
+  begun : {p : Place} {t b : List ℕ} → p ≡ wholeStart n measure m w a .place → length t ≡ E → b ≡ putPart E a (m + 3) t
+      → t ≡ part E (openedArea n measure m (unions n w m) a) (m + 3) → Begins n measure m w a p b
+  unfolding wholeStart charged fresh
+  begun {p} {t} {b} e l g h =
+      let at : part E b (m + 3) ≡ part E (openedArea n measure m (unions n w m) a) (m + 3) =
+      ap (λ (x : List ℕ). part E x (m + 3)) g ∙ put-same E (m + 4) a (f .room) (m + 3) (omega arith) (omega arith) t l ∙ h in
+      record {
+        place = e;
+        alike = subst (λ (x : Place). Alike x b (openedArea n measure m (unions n w m) a)) (sym e) (alike-fresh _ b _ refl at);
+        beyond = ap (drop ((m + 4) * E)) g ∙ put-beyond E (m + 4) a (f .room) (m + 3) (omega arith) (omega arith) t l;
+      }
+
+  -- under the other measures there is no footprint
+  pub start-other : {p : Place} {b : List ℕ} → measure ≢ 2 → p ≡ fresh measure n m → b ≡ zeroAt (kit measure n) a (m + 3) → Begins n measure m w a p b
+  unfolding wholeStart openedArea zeroAt
+  start-other ne e g =
+      begun (e ∙ charged-none (fresh measure n m) ∙ rw (ne-eqb measure 2 ne)) (length-zeros E) g
+      (sym (rw (ne-eqb measure 2 ne) (zeroed-part E (m + 4) a (m + 3) (omega arith) (omega arith))))
+
+  -- under measure 2 it is made in part m + 3
+  pub start-footprint : {p q : Place} {t : List ℕ} → measure ≡ 2 → q ≡ fresh measure n m → (p ≡ charged q (m - 1)) × (t ≡ unions n w m)
+      → Begins n measure m w a p (take ((m + 2) * n) a ++ (t ++ drop n (drop ((m + 2) * n) a)))
+  unfolding wholeStart putPart
+  start-footprint {p} {q} {t} two e u =
+      let i : m + 3 - 1 ≡ m + 2 = omega arith in
+      let k = width-links measure n (λ x. omega arith) in
+      let z = f .words in
+      begun (u .0 ∙ ap (λ (x : Place). charged x (m - 1)) e ∙ rw (eq-eqb measure 2 two)) (ap length (u .1) ∙ united ∙ sym k) (rw (k, i))
+      (u .1 ∙ sym (opened-list n measure m (unions n w m) a (f .room) (λ x. sym united) two))
 
 -- ---- the steps
 
--- what holds after k picks: the state is that of k steps, the place is ready for the next one, and the words beyond the parts are as they were
+-- what holds after k picks: the place is ready for the next one, and the words beyond the parts are as they were
 pub record Along (p : Place) (w a : List ℕ) (m k : ℕ) (q : Place) (b : List ℕ) : Type 0 where
   pub starts : Starts p m w a
   pub low : k ≤ m
-  pub state-is : state q b ≡ stepsOf (kitOf p) (p .boards) w k (state p a)
   pub ready : Ready q (length b)
   pub size : length b ≡ length a
   pub boards : q .boards ≡ p .boards
@@ -114,14 +142,12 @@ pub record Along (p : Place) (w a : List ℕ) (m k : ℕ) (q : Place) (b : List 
   pub beyond : drop ((p .limit + 4) * widthOf (p .measure) (p .boards)) b ≡ drop ((p .limit + 4) * widthOf (p .measure) (p .boards)) a
 
 pub along-start : (p : Place) (w a : List ℕ) (m : ℕ) → Starts p m w a → Along p w a m 0 p a
-unfolding stepsOf
 along-start p w a m s =
     let c = s .comps in
     let t = s .tests in
     record {
       starts = s;
       low = zero-le;
-      state-is = refl;
       ready = s .ready;
       size = refl;
       boards = refl;
@@ -152,52 +178,161 @@ module _ {p q : Place} {w a b : List ℕ} {m k : ℕ} (g : Along p w a m k q b) 
       let y = g .starts .limit in
       step-takes (g .ready) room (omega arith) (omega arith) shape
 
-  same-kit : kitOf q ≡ kitOf p
-  same-kit = ap₂ kit (g .measure) (g .boards)
-
-  pub along-turn : {r : Place} {d : List ℕ} → Does (stepped (kitOf q) pick) q b r d → Along p w a m (k + 1) r d
-  unfolding stepsOf
-  along-turn {r} {d} e =
-      let f = stepped-framed q b pick (g .ready) room shape in
-      let size : length d ≡ length b = ap length (e .1) ∙ f .size in
-      let s = step-leaves b pick (g .ready) room e size in
-      let st = s .1 in
-      let sc = st .comps in
-      let sT = st .tests in
-      let sm = st .taken in
+  -- a step that comes to the place of the walk, and writes no word beyond the parts
+  pub along-turn : {r : Place} {d : List ℕ} → r ≡ stepped (kitOf q) pick (state q b) .place → length d ≡ length b
+      → drop ((q .limit + 4) * widthOf (q .measure) (q .boards)) d ≡ drop ((q .limit + 4) * widthOf (q .measure) (q .boards)) b → Along p w a m (k + 1) r d
+  along-turn {r} {d} e size out =
+      let s = subst (λ (x : Place). Stepped q x) (sym e) (stepped-grown q b pick (g .ready) room) in
+      let sc = s .comps in
+      let sT = s .tests in
+      let sm = s .taken in
       let gc = g .comps in
       let gt = g .tests in
       let gm = g .taken in
       record {
         starts = g .starts;
         low = omega arith;
-        state-is = rw (add-one k) (ap₂ state (e .0) (e .1) ∙ ap₂ (λ (K : Kit) (x : State). stepped K pick x) same-kit (g .state-is));
-        ready = s .0;
+        ready = subst (λ (x : ℕ). Ready r x) (sym size) (ready-on s (g .ready));
         size = size ∙ g .size;
-        boards = st .boards ∙ g .boards;
-        measure = st .measure ∙ g .measure;
-        limit = st .limit ∙ g .limit;
+        boards = s .boards ∙ g .boards;
+        measure = s .measure ∙ g .measure;
+        limit = s .limit ∙ g .limit;
         taken = omega arith;
         comps = omega arith;
         tests = omega arith;
-        beyond = ap (drop ((p .limit + 4) * widthOf (p .measure) (p .boards))) (e .1) ∙ out ∙ g .beyond;
+        beyond = subst (λ (x : ℕ). drop x d ≡ drop x b) (ap₂ (λ (x y : ℕ). (x + 4) * y) (g .limit) (ap₂ widthOf (g .measure) (g .boards))) out ∙ g .beyond;
       }
-    where
-      out : drop ((p .limit + 4) * widthOf (p .measure) (p .boards)) (stepped (kitOf q) pick (state q b) .area) ≡ drop ((p .limit + 4) * widthOf (p .measure) (p .boards)) b
-      out =
-          let f = stepped-framed q b pick (g .ready) room shape .beyond in
-          subst (λ (x : ℕ). drop x (stepped (kitOf q) pick (state q b) .area) ≡ drop x b) (ap₂ (λ (x y : ℕ). (x + 4) * y) (g .limit) (ap₂ widthOf (g .measure) (g .boards))) f
+
+  -- a step of the walk
+  pub along-walk : Along p w a m (k + 1) (stepped (kitOf q) pick (state q b) .place) (stepped (kitOf q) pick (state q b) .area)
+  along-walk = let f = stepped-framed q b pick (g .ready) room shape in along-turn refl (f .size) (f .beyond)
+
+  -- a step of a whole run
+  pub along-bare : {r : Place} {d : List ℕ} → Does (bareStep (kitOf q) pick) q b r d → Along p w a m (k + 1) r d
+  along-bare {r} {d} e =
+      let f = bare-frame q pick b along-takes in
+      along-turn (e .0 ∙ bare-place q pick b) (ap length (e .1) ∙ f .0) (ap (drop ((q .limit + 4) * widthOf (q .measure) (q .boards))) (e .1) ∙ f .1)
+
+-- the state after one pick more
+pub bare-next : {p q r : Place} {w a b d : List ℕ} {m k : ℕ} → Along p w a m k q b → state q b ≡ bareSteps (kitOf p) (p .boards) w k (state p a)
+    → Does (bareStep (kitOf q) (lentPick (p .boards) w k)) q b r d → state r d ≡ bareSteps (kitOf p) (p .boards) w (k + 1) (state p a)
+unfolding bareSteps
+bare-next {p} {q} {r} {w} {a} {b} {d} {m} {k} g s e =
+    rw (add-one k) (ap₂ state (e .0) (e .1) ∙ ap₂ (λ (K : Kit) (x : State). bareStep K (lentPick (p .boards) w k) x) (ap₂ kit (g .measure) (g .boards)) s)
+
+pub bare-none : (K : Kit) (n : ℕ) (w : List ℕ) (st : State) → st ≡ bareSteps K n w 0 st
+unfolding bareSteps
+bare-none K n w st = refl
 
 -- after the last pick
-pub along-end : {p q : Place} {w a b : List ℕ} {m k : ℕ} → Along p w a m k q b → m ≤ k → Does (stepsOf (kitOf p) (p .boards) w m) p a q b × Ends p m a q b
-along-end {p} {q} {w} {a} {b} {m} {k} g h =
+pub along-end : {p q : Place} {w a b : List ℕ} {m k : ℕ} → Along p w a m k q b → state q b ≡ bareSteps (kitOf p) (p .boards) w k (state p a) → m ≤ k
+    → Does (bareSteps (kitOf p) (p .boards) w m) p a q b × Ends p m a q b
+along-end {p} {q} {w} {a} {b} {m} {k} g s h =
     let l = g .low in
     let t = g .taken in
     let e : k ≡ m = omega arith in
-    let s : state q b ≡ stepsOf (kitOf p) (p .boards) w m (state p a) = g .state-is ∙ ap (λ (x : ℕ). stepsOf (kitOf p) (p .boards) w x (state p a)) e in (
-      (ap (λ (x : State). x .place) s, ap (λ (x : State). x .area) s),
+    let s′ : state q b ≡ bareSteps (kitOf p) (p .boards) w m (state p a) = s ∙ ap (λ (x : ℕ). bareSteps (kitOf p) (p .boards) w x (state p a)) e in (
+      (ap (λ (x : State). x .place) s′, ap (λ (x : State). x .area) s′),
       record { inside = λ y. g .ready .inside (omega arith); all-taken = omega arith; beyond = g .beyond },
     )
+
+-- ---- the steps of the walk
+
+pub walked : (p : Place) (w a : List ℕ) (m : ℕ) → Starts p m w a → (k : ℕ) → k ≤ m
+    → Along p w a m k (stepsOf (kitOf p) (p .boards) w k (state p a) .place) (stepsOf (kitOf p) (p .boards) w k (state p a) .area)
+unfolding stepsOf
+walked p w a m s zero h = along-start p w a m s
+walked p w a m s (suc k) h =
+    let g = walked p w a m s k (omega arith) in
+    let st = stepsOf (kitOf p) (p .boards) w k (state p a) in
+    let pick = lentPick (p .boards) w k in
+    subst (λ (i : ℕ). Along p w a m i (stepped (kitOf p) pick st .place) (stepped (kitOf p) pick st .area)) (add-one k)
+    (subst (λ (K : Kit). Along p w a m (k + 1) (stepped K pick st .place) (stepped K pick st .area)) (ap₂ kit (g .measure) (g .boards)) (along-walk g (omega arith)))
+
+-- ---- the steps of a whole run beside those of the walk
+
+module _ (p : Place) (w a b : List ℕ) (m : ℕ) (sa : Starts p m w a) (sb : Starts p m w b) (x : Alike p a b) where
+  abbrev bare : ℕ → State
+  bare k = bareSteps (kitOf p) (p .boards) w k (state p a)
+
+  abbrev walk : ℕ → State
+  walk k = stepsOf (kitOf p) (p .boards) w k (state p b)
+
+  -- after k picks both have come to one place, and to areas that no step tells apart
+  pub record Beside (k : ℕ) : Type 0 where
+    pub same : bare k .place ≡ walk k .place
+    pub still : StillAlike (bare k .place) (bare k .area) (walk k .area)
+    pub left : Along p w a m k (bare k .place) (bare k .area)
+
+  pub beside : (k : ℕ) → k ≤ m → Beside k
+  unfolding bareSteps stepsOf
+  beside zero h = record { same = refl; still = λ z. x; left = along-start p w a m sa }
+  beside (suc k) h =
+      let g = beside k (omega arith) in
+      let q = bare k .place in
+      let pick = lentPick (p .boards) w k in
+      let kl : kitOf q ≡ kitOf p = ap₂ kit (g .left .measure) (g .left .boards) in
+      let tr : Takes q (length (walk k .area)) (length pick) =
+      subst (λ (y : Place). Takes y (length (walk k .area)) (length pick)) (sym (g .same)) (along-takes (walked p w b m sb k (omega arith)) (omega arith)) in
+      let n = bare-walks q pick (bare k .area) (walk k .area) (along-takes (g .left) (omega arith)) tr (g .still) in
+      let e : (bareStep (kitOf p) pick (bare k) .place ≡ stepped (kitOf p) pick (walk k) .place)
+      × StillAlike (bareStep (kitOf p) pick (bare k) .place) (bareStep (kitOf p) pick (bare k) .area) (stepped (kitOf p) pick (walk k) .area) =
+      subst (λ (y : Place). (bareStep (kitOf p) pick (bare k) .place ≡ stepped (kitOf p) pick (state y (walk k .area)) .place)
+      × StillAlike (bareStep (kitOf p) pick (bare k) .place) (bareStep (kitOf p) pick (bare k) .area) (stepped (kitOf p) pick (state y (walk k .area)) .area)) (g .same)
+      (subst (λ (K : Kit). (bareStep K pick (bare k) .place ≡ stepped K pick (state q (walk k .area)) .place)
+      × StillAlike (bareStep K pick (bare k) .place) (bareStep K pick (bare k) .area) (stepped K pick (state q (walk k .area)) .area)) kl n) in
+      let l : Along p w a m (k + 1) (bareStep (kitOf p) pick (bare k) .place) (bareStep (kitOf p) pick (bare k) .area) =
+      subst (λ (K : Kit). Along p w a m (k + 1) (bareStep K pick (bare k) .place) (bareStep K pick (bare k) .area)) kl (along-bare (g .left) (omega arith) (refl, refl)) in
+      record {
+        same = e .0;
+        still = e .1;
+        left = subst (λ (i : ℕ). Along p w a m i (bareStep (kitOf p) pick (bare k) .place) (bareStep (kitOf p) pick (bare k) .area)) (add-one k) l;
+      }
+
+-- ---- after the end of measure 1
+
+-- a step only counts the pick, and it stays the end
+finished-brief : (q : Place) (w b : List ℕ) → finished q ≡ true → bareStep (kitOf q) w (state q b) ≡ state (pickTaken q) b
+finished-brief q w b e =
+    bare-whole q w b (kept-one q false (and-left (eqb (q .measure) 1) (ended q) e)) ∙ finished-step q w b e
+
+taken-next : (q : Place) (j : ℕ) → picksTaken (pickTaken q) j ≡ picksTaken q (suc j)
+unfolding picksTaken pickTaken
+taken-next q j = let e : q .taken .0 + 1 + j ≡ q .taken .0 + suc j = omega arith in rw e
+
+taken-none : (q : Place) → q ≡ picksTaken q 0
+unfolding picksTaken
+taken-none q = rw add-zero
+
+finished-steps : (K : Kit) (n : ℕ) (w : List ℕ) (st : State) (k j : ℕ) (q : Place) (b : List ℕ) → kitOf q ≡ K → finished q ≡ true → state q b ≡ bareSteps K n w k st
+    → state (picksTaken q j) b ≡ bareSteps K n w (j + k) st
+unfolding bareSteps pickTaken
+finished-steps K n w st k zero q b f e g = rw zero-add (ap (λ (x : Place). state x b) (sym (taken-none q)) ∙ g)
+finished-steps K n w st k (suc j) q b f e g =
+    let h : state (pickTaken q) b ≡ bareSteps K n w (suc k) st = sym (finished-brief q (lentPick n w k) b e) ∙ ap₂ (λ (L : Kit) (x : State). bareStep L (lentPick n w k) x) f g in
+    let i : j + suc k ≡ suc j + k = omega arith in
+    ap (λ (x : Place). state x b) (sym (taken-next q j)) ∙ finished-steps K n w st (suc k) j (pickTaken q) b f (finished-stays q e) h
+    ∙ ap (λ (x : ℕ). bareSteps K n w x st) i
+
+-- the picks that are left
+pub along-finished : {p q r : Place} {w a b : List ℕ} {m k : ℕ} → Along p w a m k q b → state q b ≡ bareSteps (kitOf p) (p .boards) w k (state p a) → k ≤ m → finished q ≡ true
+    → r ≡ picksTaken q (m - k) → Does (bareSteps (kitOf p) (p .boards) w m) p a r b × Ends p m a r b
+unfolding picksTaken
+along-finished {p} {q} {r} {w} {a} {b} {m} {k} g s h e f =
+    let i : m - k + k ≡ m = omega arith in
+    let t = finished-steps (kitOf p) (p .boards) w (state p a) k (m - k) q b (ap₂ kit (g .measure) (g .boards)) e s ∙ ap (λ (x : ℕ). bareSteps (kitOf p) (p .boards) w x (state p a)) i in
+    let gt = g .taken in
+    let gi = g .ready .inside (ltb-true 0 (q .taken .0) (and-left (ltb 0 (q .taken .0)) (not (q .passed)) (and-right (eqb (q .measure) 1) (ended q) e))) in (
+      (f ∙ ap (λ (x : State). x .place) t, ap (λ (x : State). x .area) t),
+      subst (λ (x : Place). Ends p m a x b) (sym f) (record { inside = λ y. omega arith; all-taken = omega arith; beyond = g .beyond }),
+    )
+
+pub list-cost : (measure m : ℕ) → m ≤ 4096 → either (eqb measure 2) (m - 1) 0 ≤ 4096
+list-cost measure m h = go (eqb measure 2)
+  where
+    go : (x : Bool) → either x (m - 1) 0 ≤ 4096
+    go true = omega arith
+    go false = omega arith
 
 -- ---- from the start to the end
 
@@ -224,27 +359,22 @@ whole-starts n measure m c w a {p} {b} f h e l =
     })
 
 -- what the walk of a whole run comes to
-pub whole-ends : (n measure m : ℕ) (w a : List ℕ) {p q : Place} {b d : List ℕ} → state p b ≡ wholeStart n measure m w a
-    → Does (stepsOf (kitOf p) (p .boards) w m) p b q d → q ≡ wholeAfter n measure m w a m .place
+pub whole-ends : (n measure m : ℕ) (w a : List ℕ) {p q : Place} {b d : List ℕ} → Runs n measure m w a → Begins n measure m w a p b → length b ≡ length a
+    → Does (bareSteps (kitOf p) (p .boards) w m) p b q d → q ≡ wholeAfter n measure m w a m .place
 unfolding wholeAfter wholeStart charged fresh
-whole-ends n measure m w a e g = g .0 ∙ ap (λ (x : State). stepsOf (kitOf (x .place)) (x .place .boards) w m x .place) e
+whole-ends n measure m w a {p} {q} {b} {d} f g l e =
+    let z = f .words in
+    let o = opened-length n measure m (unions n w m) a (f .room) (λ x. sym (length-unions n w m (omega arith))) in
+    let r = beside p w b (openedArea n measure m (unions n w m) a) m (whole-starts n measure m _ w a f (list-cost measure m (f .cap)) (g .place) l)
+    (whole-starts n measure m _ w a f (list-cost measure m (f .cap)) (g .place) o) (g .alike) m (le-refl m) in
+    e .0 ∙ r .same ∙ ap (λ (y : Place). stepsOf (kitOf y) (y .boards) w m (state y (openedArea n measure m (unions n w m) a)) .place) (g .place)
 
 -- the words beyond the needed ones
-pub whole-beyond : (n measure m : ℕ) (w a d : List ℕ) {p : Place} {b : List ℕ} → Runs n measure m w a → state p b ≡ wholeStart n measure m w a
+pub whole-beyond : (n measure m : ℕ) (w a d : List ℕ) {p : Place} {b : List ℕ} → Begins n measure m w a p b
     → drop ((p .limit + 4) * widthOf (p .measure) (p .boards)) d ≡ drop ((p .limit + 4) * widthOf (p .measure) (p .boards)) b
     → zeroed (needed measure n m) d ≡ zeroed (needed measure n m) a
 unfolding zeroed wholeStart charged fresh
-whole-beyond n measure m w a d {p} {b} f e h =
-    let z = f .words in
-    let k : drop (needed measure n m) d ≡ drop (needed measure n m) (openedArea n measure m (unions n w m) a) =
-    subst (λ (x : State). drop ((x .place .limit + 4) * widthOf (x .place .measure) (x .place .boards)) d
-    ≡ drop ((x .place .limit + 4) * widthOf (x .place .measure) (x .place .boards)) (x .area)) e h in
-    ap (λ (x : List ℕ). zeros (needed measure n m) ++ x)
-    (k ∙ opened-beyond n measure m (unions n w m) a (f .room) (λ x. sym (length-unions n w m (omega arith))))
-
-pub list-cost : (measure m : ℕ) → m ≤ 4096 → either (eqb measure 2) (m - 1) 0 ≤ 4096
-list-cost measure m h = go (eqb measure 2)
-  where
-    go : (x : Bool) → either x (m - 1) 0 ≤ 4096
-    go true = omega arith
-    go false = omega arith
+whole-beyond n measure m w a d {p} {b} g h =
+    let k : drop (needed measure n m) d ≡ drop (needed measure n m) b =
+    subst (λ (x : Place). drop ((x .limit + 4) * widthOf (x .measure) (x .boards)) d ≡ drop ((x .limit + 4) * widthOf (x .measure) (x .boards)) b) (g .place) h in
+    ap (λ (x : List ℕ). zeros (needed measure n m) ++ x) (k ∙ g .beyond)

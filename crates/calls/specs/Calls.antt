@@ -15,6 +15,7 @@ use Rattle.place.specs.declared.Place.{Place}
 use Rattle.place.specs.Places.{fresh, nowhere, charged, soundPlace}
 use Rattle.verdicts.specs.Verdicts.{needed, openVerdict, pickVerdict, wholeVerdict}
 use Rattle.steps.specs.Walk.{State, state, kitOf, stepped, reported}
+use Rattle.steps.specs.Bare.{bareStep}
 use Rattle.calls.specs.Answers.{Handed, handed, Outcome, outcome}
 
 -- ---- opening
@@ -70,6 +71,11 @@ wholeStart n measure m w a = state (charged (fresh measure n m) (either (eqb mea
 unfoldable pub stepsOf : Kit → ℕ → List ℕ → ℕ → State → State
 stepsOf K n w zero st = st
 stepsOf K n w (suc k) st = stepped K (lentPick n w k) (stepsOf K n w k st)
+
+-- the same by the steps of `Bare`, which write only what a later one reads
+unfoldable pub bareSteps : Kit → ℕ → List ℕ → ℕ → State → State
+bareSteps K n w zero st = st
+bareSteps K n w (suc k) st = bareStep K (lentPick n w k) (bareSteps K n w k st)
 
 -- after the first k picks
 unfoldable pub wholeAfter : ℕ → ℕ → ℕ → List ℕ → List ℕ → ℕ → State

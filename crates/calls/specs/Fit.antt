@@ -5,7 +5,10 @@ use Prim.Native.Nat.{ℕ, _+_, _*_, _≤_}
 use lib.ListN.{length, drop}
 use Rattle.measures.specs.Kit.{widthOf}
 use Rattle.place.specs.declared.Place.{Place}
+use Rattle.verdicts.specs.Verdicts.{needed}
 use Rattle.steps.specs.Fit.{Ready}
+use Rattle.steps.specs.Alike.{Alike}
+use Rattle.calls.specs.Calls.{wholeStart}
 
 -- what they rely on: a place that has taken no pick, and words for m of them
 pub record Starts (p : Place) (m : ℕ) (w a : List ℕ) : Type 0 where
@@ -15,6 +18,12 @@ pub record Starts (p : Place) (m : ℕ) (w a : List ℕ) : Type 0 where
   pub words : m * p .boards ≤ length w
   pub comps : p .compositions .0 ≤ 8192
   pub tests : p .tests .0 ≤ 8192
+
+-- what they start from: the place of `wholeStart`, and an area that they cannot tell from its own, with the words beyond the parts as they were
+pub record Begins (n measure m : ℕ) (w a : List ℕ) (p : Place) (b : List ℕ) : Type 0 where
+  pub place : p ≡ wholeStart n measure m w a .place
+  pub alike : Alike p b (wholeStart n measure m w a .area)
+  pub beyond : drop (needed measure n m) b ≡ drop (needed measure n m) a
 
 -- what they leave, besides the state
 pub record Ends (p : Place) (m : ℕ) (a : List ℕ) (q : Place) (b : List ℕ) : Type 0 where

@@ -1,17 +1,18 @@
 // The calls of the walk: opening, pick, length, whole run. None requires anything.
 ghost use mathlib.Core.Path.{_≡_};
+ghost use mathlib.Core.Logic.{_≢_};
 ghost use Prim.Native.Nat.{_-_, _*_, _≤_};
 ghost use lib.ListN.{length};
 ghost use Rattle.area.specs.Parts.{zeroed};
 ghost use Rattle.place.specs.Places.{charged};
 ghost use Rattle.verdicts.specs.Verdicts.{needed};
 ghost use Rattle.verdicts.specs.Fit.{Clears, Runs};
-ghost use Rattle.steps.specs.Walk.{state, kitOf, reported};
-ghost use Rattle.steps.specs.Fit.{Does};
+ghost use Rattle.steps.specs.Walk.{kitOf, stepped, reported};
+ghost use Rattle.steps.specs.Fit.{Lends, Takes, Does};
 ghost use Rattle.calls.specs.Answers.{openingSays, takingSays, answerSays};
-ghost use Rattle.calls.specs.Fit.{Starts, Ends};
+ghost use Rattle.calls.specs.Fit.{Starts, Begins, Ends};
 ghost use Rattle.calls.specs.Calls.{openedArea, openSays, openLeaves, pickSays, pickLeaves, reportSays, lengthSays};
-ghost use Rattle.calls.specs.Calls.{unions, wholeStart, stepsOf, wholeReport, wholeSays, wholeLeaves};
+ghost use Rattle.calls.specs.Calls.{unions, bareSteps, wholeReport, wholeSays, wholeLeaves};
 use model::Compositions;
 use model::Refusal;
 use model::Tests;
@@ -80,12 +81,43 @@ pub fn open(n: usize, measure: usize, limit: usize, footprint: &[u32], area: &mu
 
 // ---- pick
 
+// One step under measures 1 to 3, with room for the copy of a table of links.
+fn step_links(p: Place, area: &mut [u32], words: &[u32]) -> Place
+    requires { ⌜ Takes p (length (now area)) (length (now words)) × (p .measure ≢ 4) ⌝ }
+    ensures { λ r. ⌜ Does (stepped (kitOf p) (now (words .entry))) p (now (area .entry)) r (now (area .exit)) ⌝ }
+{
+    let n = p.boards;
+    let mut right = lists::no_words();
+    steps::step(p, area, words, &mut right[0..n], true)
+}
+
+// One step under measure 4, with room for the copy of a table of times.
+fn step_times(p: Place, area: &mut [u32], words: &[u32]) -> Place
+    requires { ⌜ Takes p (length (now area)) (length (now words)) × (p .measure ≡ 4) ⌝ }
+    ensures { λ r. ⌜ Does (stepped (kitOf p) (now (words .entry))) p (now (area .entry)) r (now (area .exit)) ⌝ }
+{
+    let n = p.boards;
+    let e = n * n + n * n;
+    let mut right = lists::no_times();
+    steps::step(p, area, words, &mut right[0..e], true)
+}
+
+fn take_pick(p: Place, area: &mut [u32], words: &[u32]) -> Place
+    requires { ⌜ Takes p (length (now area)) (length (now words)) ⌝ }
+    ensures { λ r. ⌜ Does (stepped (kitOf p) (now (words .entry))) p (now (area .entry)) r (now (area .exit)) ⌝ }
+{
+    if p.measure == 4 {
+        return step_times(p, area, words);
+    }
+    step_links(p, area, words)
+}
+
 // Takes a pick: one step of the walk.
 pub fn pick(p: Place, area: &mut [u32], words: &[u32]) -> Taking
     ensures { λ r. ⌜ (takingSays r ≡ pickSays p (now (area .entry)) (now (words .entry))) × (now (area .exit) ≡ pickLeaves p (now (area .entry)) (now (words .entry))) ⌝ }
 {
     match verdicts::pick_verdict(p, area, words) {
-        Verdict::Sound => Taking::Taken(steps::step(p, area, words)),
+        Verdict::Sound => Taking::Taken(take_pick(p, area, words)),
         Verdict::Refuse(c) => Taking::NotTaken(p, c),
     }
 }
@@ -153,32 +185,68 @@ fn unite_picks(p: Place, words: &[u32], n: usize, m: usize, out: &mut [u32]) -> 
     p.charged(made)
 }
 
-// The place and the area that a whole run starts from. Only measure 2 has a footprint: the union of all picks, made in part m + 3.
+// The place that a whole run starts from, and all that the steps read of the area before they write it: the footprint. Only measure 2 has one, the
+// union of all picks, made in part m + 3.
 fn whole_start(n: usize, measure: usize, words: &[u32], m: usize, area: &mut [u32]) -> Place
     requires { ⌜ Runs n measure m (now words) (now area) ⌝ }
-    ensures { λ r. ⌜ state r (now (area .exit)) ≡ wholeStart n measure m (now (words .entry)) (now (area .entry)) ⌝ }
+    ensures { λ r. ⌜ Begins n measure m (now (words .entry)) (now (area .entry)) r (now (area .exit)) ⌝ }
 {
     let p = Place::open(measure, n, m);
-    zero_needed(n, measure, m, area);
     if measure != 2 {
+        area::zero_part(area, measure, n, m + 3);
         return p;
     }
     let at = (m + 2) * n;
     unite_picks(p, words, n, m, &mut area[at..at + n])
 }
 
-// All picks, one after the other, by the unchecked step: a count that starts at m - 1 would be refused as 16.
-fn whole_steps(p: Place, area: &mut [u32], words: &[u32], m: usize) -> Place
-    requires { ⌜ Starts p m (now words) (now area) ⌝ }
-    ensures { λ r. ⌜ Does (stepsOf (kitOf p) (p .boards) (now (words .entry)) m) p (now (area .entry)) r (now (area .exit)) × Ends p m (now (area .entry)) r (now (area .exit)) ⌝ }
+// All picks, one after the other, by the unchecked step: a count that starts at m - 1 would be refused as 16. The area is not kept, and once measure 1
+// has ended the picks that are left only count.
+fn whole_steps(p: Place, area: &mut [u32], words: &[u32], m: usize, right: &mut [u32]) -> Place
+    requires { ⌜ Starts p m (now words) (now area) × Lends p (length (now right)) ⌝ }
+    ensures { λ r. ⌜ Does (bareSteps (kitOf p) (p .boards) (now (words .entry)) m) p (now (area .entry)) r (now (area .exit)) × Ends p m (now (area .entry)) r (now (area .exit)) ⌝ }
 {
     let n = p.boards;
     let mut q = p;
     for k in 0..m {
+        if steps::is_finished(q) {
+            return q.picks_taken(m - k);
+        }
         let at = k * n;
-        q = steps::step(q, area, &words[at..at + n]);
+        q = steps::step(q, area, &words[at..at + n], right, false);
     }
     q
+}
+
+// The same with room for the copy of a table of links, made once for all picks.
+fn whole_links(p: Place, area: &mut [u32], words: &[u32], m: usize) -> Place
+    requires { ⌜ Starts p m (now words) (now area) × (p .measure ≢ 4) ⌝ }
+    ensures { λ r. ⌜ Does (bareSteps (kitOf p) (p .boards) (now (words .entry)) m) p (now (area .entry)) r (now (area .exit)) × Ends p m (now (area .entry)) r (now (area .exit)) ⌝ }
+{
+    let n = p.boards;
+    let mut right = lists::no_words();
+    whole_steps(p, area, words, m, &mut right[0..n])
+}
+
+// The same with room for the copy of a table of times.
+fn whole_times(p: Place, area: &mut [u32], words: &[u32], m: usize) -> Place
+    requires { ⌜ Starts p m (now words) (now area) × (p .measure ≡ 4) ⌝ }
+    ensures { λ r. ⌜ Does (bareSteps (kitOf p) (p .boards) (now (words .entry)) m) p (now (area .entry)) r (now (area .exit)) × Ends p m (now (area .entry)) r (now (area .exit)) ⌝ }
+{
+    let n = p.boards;
+    let e = n * n + n * n;
+    let mut right = lists::no_times();
+    whole_steps(p, area, words, m, &mut right[0..e])
+}
+
+fn take_picks(p: Place, area: &mut [u32], words: &[u32], m: usize) -> Place
+    requires { ⌜ Starts p m (now words) (now area) ⌝ }
+    ensures { λ r. ⌜ Does (bareSteps (kitOf p) (p .boards) (now (words .entry)) m) p (now (area .entry)) r (now (area .exit)) × Ends p m (now (area .entry)) r (now (area .exit)) ⌝ }
+{
+    if p.measure == 4 {
+        return whole_times(p, area, words, m);
+    }
+    whole_links(p, area, words, m)
 }
 
 // A whole run that nothing refuses. It never reads what the area held, and the needed words end zero.
@@ -187,7 +255,7 @@ fn whole_run(n: usize, measure: usize, words: &[u32], m: usize, area: &mut [u32]
     ensures { λ r. ⌜ (answerSays r ≡ wholeReport n measure m (now (words .entry)) (now (area .entry))) × (now (area .exit) ≡ zeroed (needed measure n m) (now (area .entry))) ⌝ }
 {
     let p = whole_start(n, measure, words, m, area);
-    let q = whole_steps(p, area, words, m);
+    let q = take_picks(p, area, words, m);
     zero_needed(n, measure, m, area);
     report(q)
 }

@@ -1,22 +1,21 @@
 -- The checks say what the meaning says. Assumes nothing.
-use mathlib.Core.Path.{_≡_, sym, ap, _∙_, subst}
-use mathlib.Core.Logic.{_↔_, ⊎-elim}
-use mathlib.Core.Bool.{_||_, not}
+use mathlib.Core.Path.{_≡_, sym, subst}
+use mathlib.Core.Logic.{_↔_}
+use mathlib.Core.Bool.{not}
 use mathlib.Core.List.{List}
-use Prim.Native.Nat.{ℕ, zero, suc, _+_, _-_, _^_, _≤_, _<_}
+use Prim.Native.Nat.{ℕ, _-_, _^_, _≤_, _<_}
 use native.Mathlib.Decide.{decLt}
-use native.Mathlib.Nat.{pow-suc, lt-of-lt-of-le, le-of-lt}
 use native.Mathlib.Omega.{arith}
-use lib.Bits.{bitOr, or-lt}
+use lib.Bits.{bitOr}
 use lib.Dec.{T, eqb→eq, leb, leb→le, le→leb}
 use lib.ListN.{length, getD, List·getD-eq-default}
-use lib.Pow.{pow-pos, pow-lt}
-use Rattle.model.specs.Recording.{bit, link, Clean}
-use Rattle.model.proofs.Logic.{tr, bool-ext, or-l, or-r, or-cases, and-both, and-l, and-r, not-in, not-out, eq-refl}
-use Rattle.model.proofs.Bits.{bit-or, bits-ext}
+use lib.Pow.{pow-pos}
+use Rattle.model.specs.Recording.{link, Clean}
+use Rattle.model.proofs.Logic.{and-both, and-l, and-r, not-in, not-out, eq-refl}
 use Rattle.model.proofs.Links.{link-from}
 use Rattle.lists.proofs.Tab.{every-in, every-out}
 use Rattle.checks.specs.Checks.{allowed, cleanRow, clean, listedRow, listed}
+use Rattle.checks.proofs.Masks.{or-in, or-out}
 
 -- n words are let through exactly when they have no forbidden bit
 pub clean-is : (n : ℕ) (w : List ℕ) → length w ≡ n → T (clean n w) ↔ Clean n w
@@ -37,26 +36,11 @@ clean-is n w e = (
     own t u m (yes h) = not-out (link w u u) (and-r (leb (getD w u 0) (2 ^ n - 1)) (not (link w u u)) (every-out (cleanRow n w) n t u h)) m
     own t u m (no h) = h (link-from n w (record { size = e; small = λ x. small t x (decLt x n) }) u u m)
 
-below-power : (x : ℕ) → x < 2 ^ x
-below-power zero = omega arith
-below-power (suc x) = let e = pow-suc 2 x in let h = below-power x in omega arith
-
 -- a pick without a forbidden bit is let through by a footprint, whatever words it has, exactly when the footprint has each of its links
 pub listed-is : (n : ℕ) (footprint w : List ℕ) → Clean n w → T (listed n footprint w) ↔ ((u v : ℕ) → T (link w u v) → T (link footprint u v))
 unfolding listed listedRow link
 listed-is n l w k = (
   λ t u v m. let e = eqb→eq (bitOr (getD w u 0) (getD l u 0)) (getD l u 0) (every-out (listedRow l w) n t u (link-from n w (k .words) u v m)) in
-      tr (ap (λ (x : ℕ). bit x v) e) (tr (sym (bit-or (getD w u 0) (getD l u 0) v)) (or-l (bit (getD w u 0) v) (bit (getD l u 0) v) m)),
-  λ f. every-in (listedRow l w) n (λ u h. eq-refl (row f u)),
+      or-out (getD w u 0) (getD l u 0) e v m,
+  λ f. every-in (listedRow l w) n (λ u h. eq-refl (or-in (getD w u 0) (getD l u 0) (f u))),
 )
-  where
-    row : ((u v : ℕ) → T (link w u v) → T (link l u v)) → (u : ℕ) → bitOr (getD w u 0) (getD l u 0) ≡ getD l u 0
-    row f u =
-        let x = getD w u 0 in
-        let y = getD l u 0 in
-        let b = suc (n + y) in
-        let hx : x < 2 ^ b = lt-of-lt-of-le (k .words .small u) (le-of-lt (pow-lt (omega arith))) in
-        let hy : y < 2 ^ b = lt-of-lt-of-le (below-power y) (le-of-lt (pow-lt (omega arith))) in
-        bits-ext b (bitOr x y) y (or-lt b x y hx hy) hy
-        (λ v h. bit-or x y v ∙ bool-ext (bit x v || bit y v) (bit y v) (λ m. ⊎-elim (f u v) (λ (z : T (bit y v)). z) (or-cases (bit x v) (bit y v) m))
-        (or-r (bit x v) (bit y v)))

@@ -4,3 +4,4 @@ pub mod Clean
 pub mod Masks
 pub mod AllOpen
 pub mod Lent
+pub mod United

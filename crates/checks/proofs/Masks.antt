@@ -1,34 +1,20 @@
--- Bad bits gathered over the words: what they are in one word, and that none are gathered exactly when each word has none. Assumes nothing.
+-- Bits outside a mask, as the checks gather them: what they are in one word. Assumes nothing.
 use mathlib.Core.Path.{_≡_, sym, ap, _∙_}
 use mathlib.Core.Logic.{⊎-elim}
-use mathlib.Core.Bool.{Bool, _||_, _&&_}
+use mathlib.Core.Bool.{_||_}
 use mathlib.Core.List.{List}
-use Prim.Native.Nat.{ℕ, _+_, _-_, _^_, _≤_, _<_}
-use native.Mathlib.Nat.{lt-of-le-of-lt, lt-of-lt-of-le}
-use native.Mathlib.Numerals.{add-one}
+use Prim.Native.Nat.{ℕ, zero, suc, _+_, _-_, _^_, _≤_, _<_}
+use native.Mathlib.Nat.{pow-suc, lt-of-le-of-lt, lt-of-lt-of-le}
 use native.Mathlib.Decide.{decLt}
 use native.Mathlib.Omega.{arith}
 use lib.Bits.{bitAnd, bitOr, or-lt, and-le-l}
-use lib.Dec.{T, eqb, eqb→eq, eqb-refl}
+use lib.Dec.{T, eqb, eqb→eq}
 use lib.ListN.{getD}
 use lib.Pow.{pow-pos, pow-mono}
 use Rattle.model.specs.Recording.{bit}
 use Rattle.model.proofs.Logic.{tr, F→≡, cases, bool-ext, or-l, or-r, or-cases, and-both, and-l, and-r, not-in, not-out, eq-refl}
-use Rattle.model.proofs.Bits.{bit-high, bit-or, bit-and, bit-complement, bits-ext, or-none}
-use Rattle.lists.specs.Tab.{every}
+use Rattle.model.proofs.Bits.{bit-high, bit-or, bit-and, bit-complement, bits-ext}
 use Rattle.checks.specs.Checks.{listedRow}
-
--- words or-ed together are 0 exactly when each is
-none-or : (a b : ℕ) → eqb (bitOr a b) 0 ≡ eqb a 0 && eqb b 0
-none-or a b =
-    bool-ext (eqb (bitOr a b) 0) (eqb a 0 && eqb b 0)
-    (λ t. let z = or-none a b (eqb→eq (bitOr a b) 0 t) in and-both (eqb a 0) (eqb b 0) (eq-refl (z .0)) (eq-refl (z .1)))
-    (λ t. rw (eqb→eq a 0 (and-l (eqb a 0) (eqb b 0) t), eqb→eq b 0 (and-r (eqb a 0) (eqb b 0) t)) (eqb-refl 0))
-
--- A turn of the loop: x is what it adds to the bad bits, none exactly when the test f passes.
-pub gather : (f : ℕ → Bool) (k bad x : ℕ) → eqb bad 0 ≡ every f k → eqb x 0 ≡ f k → eqb (bitOr bad x) 0 ≡ every f (k + 1)
-unfolding every
-gather f k bad x e g = none-or bad x ∙ rw (add-one, e, g)
 
 -- w and m have no bit in common
 apart : (w m : ℕ) → bitAnd w m ≡ 0 → (v : ℕ) → T (bit w v) → T (bit m v) → ⊥
@@ -53,6 +39,22 @@ outside w m hw hm e v hv t =
     ⊎-elim (λ (b : T (bit m v)). b)
     (λ (b : T (bit m v) → ⊥). absurd (apart w (2 ^ 32 - 1 - m) e v t (tr (sym (bit-complement 32 m v hm hv)) (not-in (bit m v) b)))) (cases (bit m v))
 
+below-power : (x : ℕ) → x < 2 ^ x
+below-power zero = omega arith
+below-power (suc x) = let e = pow-suc 2 x in let h = below-power x in omega arith
+
+-- or-ed with m, a word gives m exactly when m has each of its bits
+pub or-out : (x m : ℕ) → bitOr x m ≡ m → (v : ℕ) → T (bit x v) → T (bit m v)
+or-out x m e v t = tr (sym (bit-or x m v) ∙ ap (λ (y : ℕ). bit y v) e) (or-l (bit x v) (bit m v) t)
+
+pub or-in : (x m : ℕ) → ((v : ℕ) → T (bit x v) → T (bit m v)) → bitOr x m ≡ m
+or-in x m f =
+    let b = x + m in
+    let hx : x < 2 ^ b = lt-of-lt-of-le (below-power x) (pow-mono (omega arith)) in
+    let hm : m < 2 ^ b = lt-of-lt-of-le (below-power m) (pow-mono (omega arith)) in
+    bits-ext b (bitOr x m) m (or-lt b x m hx hm) hm (λ v hv. bit-or x m v ∙ bool-ext (bit x v || bit m v) (bit m v)
+    (λ t. ⊎-elim (f v) (λ (z : T (bit m v)). z) (or-cases (bit x v) (bit m v) t)) (or-r (bit x v) (bit m v)))
+
 -- a word has no link outside the footprint's
 pub listed-word : (l w : List ℕ) (u : ℕ) → getD w u 0 < 2 ^ 32 → getD l u 0 < 2 ^ 32 → eqb (bitAnd (getD w u 0) (2 ^ 32 - 1 - getD l u 0)) 0 ≡ listedRow l w u
 unfolding listedRow
@@ -65,11 +67,9 @@ listed-word l w u hx hm = bool-ext (eqb (bitAnd x (2 ^ 32 - 1 - m)) 0) (eqb (bit
     m = getD l u 0
 
     one : bitAnd x (2 ^ 32 - 1 - m) ≡ 0 → bitOr x m ≡ m
-    one e =
-        bits-ext 32 (bitOr x m) m (or-lt 32 x m hx hm) hm (λ v hv. bit-or x m v ∙ bool-ext (bit x v || bit m v) (bit m v)
-        (λ t. ⊎-elim (outside x m hx hm e v hv) (λ (b : T (bit m v)). b) (or-cases (bit x v) (bit m v) t)) (or-r (bit x v) (bit m v)))
+    one e = or-in x m (λ v t. outside x m hx hm e v (below x 32 v hx t) t)
 
     two : bitOr x m ≡ m → bitAnd x (2 ^ 32 - 1 - m) ≡ 0
     two e =
         apart-in x (2 ^ 32 - 1 - m) hx (λ v hv a b. not-out (bit m v) (tr (bit-complement 32 m v hm hv) b)
-        (tr (sym (bit-or x m v) ∙ ap (λ (y : ℕ). bit y v) e) (or-l (bit x v) (bit m v) a)))
+        (or-out x m e v a))

@@ -4,6 +4,7 @@ use mathlib.Core.List.{List, [], _∷_, _++_}
 use Prim.Native.Nat.{ℕ, zero, suc, _*_}
 use lib.ListN.{take, drop}
 use Rattle.lists.specs.Tab.{every}
+use Rattle.links.specs.Tables.{union}
 use Rattle.checks.specs.Checks.{clean, listed}
 
 -- the pick with k picks before it
@@ -29,3 +30,8 @@ listedPick n list w k = listed n list (lentPick n w k)
 
 unfoldable pub listedPicks : ℕ → List ℕ → List ℕ → ℕ → Bool
 listedPicks n list w k = every (listedPick n list w) k
+
+-- the table t, united with each of the first k picks
+unfoldable pub unitedPicks : ℕ → List ℕ → List ℕ → ℕ → List ℕ
+unitedPicks n t w zero = t
+unitedPicks n t w (suc k) = union n (unitedPicks n t w k) (lentPick n w k)

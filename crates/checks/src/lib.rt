@@ -4,7 +4,7 @@ ghost use Prim.Native.Nat.{_*_, _≤_};
 ghost use lib.ListN.{length};
 ghost use Rattle.lists.specs.Tab.{padded};
 ghost use Rattle.checks.specs.Checks.{allowed, clean, listed, allOpen};
-ghost use Rattle.checks.specs.Lent.{cleanPicks, listedPicks};
+ghost use Rattle.checks.specs.Lent.{cleanPicks, unitedPicks};
 use model::Board;
 
 // The allowed bits for each number of boards n, 0 to 32: those below n. Row a of n boards may hold them all but bit a.
@@ -91,25 +91,25 @@ fn all_open(n: usize) -> [u32; 32]
     rows
 }
 
-// Whether every link of the first m picks, n words each, is in a list of links.
-fn are_listed(list: &[u32], words: &[u32], n: usize, m: usize) -> bool
-    requires { ⌜ (n ≤ 32) × ((m ≤ 4096) × ((n ≤ length (now list)) × (m * n ≤ length (now words)))) ⌝ }
-    ensures { λ r. ⌜ r ≡ listedPicks n (now (list .entry)) (now (words .entry)) m ⌝ }
+// The links of each of the first m picks, n words each, join those of out.
+fn unite_all(out: &mut [u32], words: &[u32], n: usize, m: usize)
+    requires { ⌜ (n ≡ length (now out)) × (m * n ≤ length (now words)) ⌝ }
+    ensures { λ _. ⌜ now (out .exit) ≡ unitedPicks n (now (out .entry)) (now (words .entry)) m ⌝ }
 {
     for k in 0..m {
         let at = k * n;
-        if !is_listed(list, &words[at..at + n], n) {
-            return false;
-        }
+        links::unite_into(out, &words[at..at + n], n);
     }
-    true
 }
 
-// Whether none of the first m picks, n words each, has a forbidden bit. The rows are made once for all of them.
+// Whether none of the first m picks, n words each, has a forbidden bit. Their union has a bit exactly where some pick has it, so it is asked of
+// the union, once.
 pub fn are_clean(words: &[u32], n: usize, m: usize) -> bool
     requires { ⌜ (n ≤ 32) × ((m ≤ 4096) × (m * n ≤ length (now words))) ⌝ }
     ensures { λ r. ⌜ r ≡ cleanPicks n (now (words .entry)) m ⌝ }
 {
     let rows = all_open(n);
-    are_listed(&rows[0..n], words, n, m)
+    let mut any = lists::no_words();
+    unite_all(&mut any[0..n], words, n, m);
+    is_listed(&rows[0..n], &any[0..n], n)
 }

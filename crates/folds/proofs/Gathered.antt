@@ -3,8 +3,7 @@ use mathlib.Core.Path.{_≡_, refl, sym, ap, ap₂, _∙_, subst}
 use mathlib.Core.Bool.{Bool, true, false, not, _&&_, _||_}
 use mathlib.Core.List.{List, _++_}
 use Prim.Native.Nat.{ℕ, zero, suc, _+_, _-_, _*_, _^_, _≤_, _<_}
-use native.Mathlib.Numerals.{add-one}
-use native.Mathlib.Nat.{add-sub-cancel-left, suc-mul, mul-le-mul, mul-le-mul-right, le-refl, eq-or-lt-of-le, le-of-suc-le-suc, lt-of-lt-of-le}
+use native.Mathlib.Nat.{sub-zero, suc-mul, mul-le-mul, mul-le-mul-right, le-refl, eq-or-lt-of-le, le-of-suc-le-suc, lt-of-lt-of-le}
 use mathlib.Core.Logic.{⊎-elim}
 use borrow.Author.Tests.{eq-eqb, ne-eqb, eqb-true, eqb-false}
 use native.Mathlib.Omega.{arith}
@@ -15,15 +14,15 @@ use Rattle.model.proofs.Bits.{bit-high}
 use Rattle.links.specs.Tables.{without}
 use Rattle.links.proofs.Bits.{without-lt, bit-left, bit-out, bit-below, without-less}
 use lib.ListN.{length, getD, take, drop, List·getD-append}
-use lib.Seq.{ext-getD, getD-take, getD-drop}
+use lib.Seq.{ext-getD, getD-take}
 use Rattle.model.specs.Recording.{bit}
 use Rattle.lists.specs.Tab.{tab, zeros, kept}
 use Rattle.lists.proofs.Tab.{length-tab, getD-tab, tab-ext, tab-zero}
 use Rattle.times.specs.Times.{cell, rows, choose, sooner, later, after, apart, arriveBy, arrival, arrivals, departBy, departure, departures}
-use Rattle.times.proofs.Rows.{row-le, part-length, Rowed}
+use Rattle.times.proofs.Rows.{cell-lt, row-le, part-length, Rowed}
 use Rattle.times.proofs.Cells.{length-rows, cell-rows}
 use Rattle.sets.specs.Marks.{someOf, setOf}
-use Rattle.folds.specs.Folds.{each, better, betterIf, crossBy, crossed, gather, withFold, foldOf, joinedRow, Small, Shared}
+use Rattle.folds.specs.Folds.{each, better, crossBy, crossed, gather, withFold, foldOf, joinedRow, turned, columnSet, Small, Shared}
 use Rattle.sets.proofs.Bits.{row-cell, some-none, bit-set, set-ext, set-lt}
 use Rattle.folds.proofs.Better.{better-none, better-assoc, better-comm, better-self}
 
@@ -240,18 +239,19 @@ square h = mul-le-mul h h
 
 -- ---- the two halves of a table
 
-cross-arrive : (n : ℕ) (s t : List ℕ) (k u v : ℕ) → crossBy false n s t k u v ≡ arriveBy n s t k u v
+-- a word of the first half, as it is lent
+first-cell : (n : ℕ) (s : List ℕ) (u v : ℕ) → u < n → v < n → cell n (take (n * n - 0) s) u v ≡ cell n s u v
+first-cell n s u v hu hv = rw sub-zero (getD-take (n * n) s (u * n + v) 0 (cell-lt n hu hv))
+
+cross-arrive : (n : ℕ) (s t : List ℕ) (k u v : ℕ) → k ≤ n → u < n → v < n → crossBy false n (take (n * n - 0) s) t k u v ≡ arriveBy n s t k u v
 unfolding crossBy arriveBy better
-cross-arrive n s t zero u v = refl
-cross-arrive n s t (suc k) u v = ap (λ (x : ℕ). sooner x (after (cell n s u k) (cell n t k v))) (cross-arrive n s t k u v)
+cross-arrive n s t zero u v h hu hv = ap (λ (x : ℕ). sooner x (cell n t u v)) (first-cell n s u v hu hv)
+cross-arrive n s t (suc k) u v h hu hv =
+    ap₂ (λ (x y : ℕ). sooner x (after y (cell n t k v))) (cross-arrive n s t k u v (omega arith) hu hv) (first-cell n s u k hu h)
 
-pub crossed-arrivals : (n : ℕ) (s t : List ℕ) → rows n (crossed false n s t) n ≡ arrivals n s t
+pub crossed-arrivals : (n : ℕ) (s t : List ℕ) → rows n (crossed false n (take (n * n - 0) s) t) n ≡ arrivals n s t
 unfolding crossed arrivals arrival
-crossed-arrivals n s t = rows-ext n _ _ n (λ u v hu hv. ap (apart u v) (cross-arrive n s t n u v))
-
--- rows and columns exchanged
-abbrev turned : ℕ → List ℕ → ℕ → ℕ → ℕ
-turned n half u v = cell n half v u
+crossed-arrivals n s t = rows-ext n _ _ n (λ u v hu hv. ap (apart u v) (cross-arrive n s t n u v (le-refl n) hu hv))
 
 eqb-comm : (u v : ℕ) → eqb v u ≡ eqb u v
 eqb-comm u v = by (eqb v u) refl
@@ -281,15 +281,15 @@ module _ (n : ℕ) (s t near far : List ℕ) (e : near ≡ rows n (turned n t) n
   crossed-apart u v hu hv = apart-comm u v _ ∙ ap (apart u v) (cross-depart n u v (le-refl n) hu hv)
 
   -- the fold of column v, which is row v of the turned table
-  cross-column : (sets : List ℕ) → sets ≡ tab (λ u. setOf (λ w. cell n t w u) n (someOf n far) u) n
+  cross-column : (sets : List ℕ) → sets ≡ tab (columnSet n t far) n
       → (u v : ℕ) → u < n → v < n → joinedRow true (cell n t u) (λ i. foldOf true n far sets i u) u v ≡ departure n s t u v
   unfolding departure
   cross-column sets q u v hu hv =
-      let a : getD sets v 0 ≡ setOf (λ w. cell n t w v) n (someOf n far) v = rw q (getD-tab (λ x. setOf (λ w. cell n t w x) n (someOf n far) x) n v hv) in
+      let a : getD sets v 0 ≡ columnSet n t far v = rw q (getD-tab (columnSet n t far) n v hv) in
       let d = a ∙ set-ext (λ w. cell n t w v) (cell n near v) n (someOf n far) v (λ w h. sym (near-cell v w hv h)) in
       sym (apart-comm u v _) ∙ ap₂ (λ (x y : ℕ). apart v u (better true x (gather true n far y n u))) (sym (near-cell v u hv hu)) d ∙ sym (cross-gather true n near far v u hv hu) ∙ crossed-apart u v hu hv
 
-pub crossed-departures : (n : ℕ) (s t far sets folds back : List ℕ) → far ≡ rows n (turned n s) n → sets ≡ tab (λ u. setOf (λ w. cell n t w u) n (someOf n far) u) n
+pub crossed-departures : (n : ℕ) (s t far sets folds back : List ℕ) → far ≡ rows n (turned n s) n → sets ≡ tab (columnSet n t far) n
     → folds ≡ rows n (foldOf true n far sets) n → back ≡ rows n (turned n folds) n → rows n (λ u. joinedRow true (cell n t u) (cell n back u) u) n ≡ departures n s t
 unfolding departures
 crossed-departures n s t far sets folds back f q g k =

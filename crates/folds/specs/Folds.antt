@@ -8,6 +8,7 @@ use lib.ListN.{length, getD, take, drop}
 use Rattle.model.specs.Recording.{bit}
 use Rattle.lists.specs.Tab.{kept}
 use Rattle.times.specs.Times.{cell, sooner, later, after, apart}
+use Rattle.sets.specs.Marks.{someOf, setOf}
 
 -- op of the words at v
 abbrev pub each : (ℕ → ℕ → ℕ) → List ℕ → List ℕ → ℕ → ℕ
@@ -57,6 +58,18 @@ foldOf late n t sets u v = gather late n t (getD sets u 0) n v
 -- a row with its fold
 abbrev pub joinedRow : Bool → (ℕ → ℕ) → (ℕ → ℕ) → ℕ → ℕ → ℕ
 joinedRow late f g u v = apart u v (better late (f v) (g v))
+
+-- ---- departures
+
+-- rows and columns exchanged
+abbrev pub turned : ℕ → List ℕ → ℕ → ℕ → ℕ
+turned n half u v = cell n half v u
+
+-- the set of column u of t, where far is the other table, turned
+abbrev pub columnSet : ℕ → List ℕ → List ℕ → ℕ → ℕ
+columnSet n t far u = setOf (turned n t u) n (someOf n far) u
+
+-- ---- what the loops rely on
 
 -- sets of boards below n
 pub record Small (n : ℕ) (sets : List ℕ) : Type 0 where

@@ -1,13 +1,13 @@
 // The composition of tables of times. A table is crossed with a later one row by row: what row u takes from the later table depends only on
 // which boards u reaches, so rows with the same set of boards share one fold over the later table. Latest departures are the same, with
-// rows and columns exchanged and the two parts too.
+// rows and columns exchanged and the two parts too. The composition is written over the earlier part.
 ghost use mathlib.Core.Path.{_≡_};
-ghost use mathlib.Core.Bool.{false};
+ghost use mathlib.Core.Bool.{true, false};
 ghost use Prim.Native.Nat.{_+_, _*_, _^_, _≤_, _<_};
 ghost use lib.ListN.{length, getD};
 ghost use Rattle.lists.specs.Tab.{tab, zeros};
 ghost use Rattle.times.specs.Times.{cell, rows, sooner, later, departures, composeTimes};
-ghost use Rattle.folds.specs.Folds.{each, better, rowAt, putRow, gather, withFold, foldOf, joinedRow, crossed, Small, Shared};
+ghost use Rattle.folds.specs.Folds.{each, better, rowAt, putRow, gather, withFold, foldOf, joinedRow, turned, columnSet, crossed, Small, Shared};
 use model::Board;
 
 // ---- a row taken in
@@ -68,7 +68,7 @@ fn fold_set(out: &mut [u32], later: &[u32], n: usize, set: u32, late: bool)
 {
     let mut rest = set;
     while rest != 0 {
-        let w = links::first_of(rest);
+        let w = links::board_in(rest);
         let at = w * n;
         fold(out, &later[at..at + n], n, late);
         rest = links::cleared(rest, Board(w));
@@ -84,7 +84,7 @@ fn fold_row(out: &mut [u32], later: &[u32], n: usize, set: u32, late: bool)
         lists::zero_over(out, n);
         return;
     }
-    let w = links::first_of(set);
+    let w = links::board_in(set);
     let at = w * n;
     lists::copy_over(out, &later[at..at + n], n);
     fold_set(out, later, n, links::cleared(set, Board(w)), late);
@@ -134,81 +134,38 @@ fn fold_rows(folds: &mut [u32], later: &[u32], sets: &[u32], n: usize, late: boo
     }
 }
 
-// ---- one half
+// ---- arrivals
 
-fn both_sooner(out: &mut [u32], row: &[u32], joined: &[u32], n: usize)
-    requires { ⌜ (n ≡ length (now out)) × ((n ≡ length (now row)) × (n ≡ length (now joined))) ⌝ }
-    ensures { λ _. ⌜ now (out .exit) ≡ tab (each sooner (now (row .entry)) (now (joined .entry))) n ⌝ }
-{
-    for v in 0..n {
-        out[v] = the_sooner(row[v], joined[v]);
-    }
-}
-
-fn both_later(out: &mut [u32], row: &[u32], joined: &[u32], n: usize)
-    requires { ⌜ (n ≡ length (now out)) × ((n ≡ length (now row)) × (n ≡ length (now joined))) ⌝ }
-    ensures { λ _. ⌜ now (out .exit) ≡ tab (each later (now (row .entry)) (now (joined .entry))) n ⌝ }
-{
-    for v in 0..n {
-        out[v] = the_later(row[v], joined[v]);
-    }
-}
-
-// The better times of two rows.
-fn both(out: &mut [u32], row: &[u32], joined: &[u32], n: usize, late: bool)
-    requires { ⌜ (n ≡ length (now out)) × ((n ≡ length (now row)) × (n ≡ length (now joined))) ⌝ }
-    ensures { λ _. ⌜ now (out .exit) ≡ tab (each (better late) (now (row .entry)) (now (joined .entry))) n ⌝ }
-{
-    if late {
-        both_later(out, row, joined, n);
-        return;
-    }
-    both_sooner(out, row, joined, n);
-}
-
-// A row of the composition: the earlier row with its fold, and no time for the board itself.
-fn cross_row(out: &mut [u32], row: &[u32], joined: &[u32], n: usize, own: Board, late: bool)
-    requires { ⌜ (own .0 < n) × ((n ≡ length (now out)) × ((n ≡ length (now row)) × (n ≡ length (now joined)))) ⌝ }
-    ensures { λ _. ⌜ now (out .exit) ≡ tab (joinedRow late (λ v. getD (now (row .entry)) v 0) (λ v. getD (now (joined .entry)) v 0) (own .0)) n ⌝ }
+// A row takes in its fold, and has no time for the board itself.
+fn take_fold(row: &mut [u32], joined: &[u32], n: usize, own: Board)
+    requires { ⌜ (own .0 < n) × ((n ≡ length (now row)) × (n ≡ length (now joined))) ⌝ }
+    ensures { λ _. ⌜ now (row .exit) ≡ tab (joinedRow false (λ v. getD (now (row .entry)) v 0) (λ v. getD (now (joined .entry)) v 0) (own .0)) n ⌝ }
 {
     let u = own.0;
-    both(out, row, joined, n, late);
-    out[u] = 0;
+    fold_sooner(row, joined, n);
+    row[u] = 0;
 }
 
-fn cross_rows(out: &mut [u32], earlier: &[u32], folds: &[u32], n: usize, late: bool)
-    requires { ⌜ (n ≤ 32) × ((n * n ≡ length (now out)) × ((n * n ≤ length (now earlier)) × (n * n ≤ length (now folds)))) ⌝ }
-    ensures { λ _. ⌜ now (out .exit) ≡ rows n (λ u. joinedRow late (cell n (now (earlier .entry)) u) (cell n (now (folds .entry)) u) u) n ⌝ }
+// The rows of a composition over those of the earlier part, which stand in half.
+fn fold_over(half: &mut [u32], folds: &[u32], n: usize)
+    requires { ⌜ (n ≤ 32) × ((n * n ≡ length (now half)) × (n * n ≤ length (now folds))) ⌝ }
+    ensures { λ _. ⌜ now (half .exit) ≡ rows n (λ u. joinedRow false (cell n (now (half .entry)) u) (cell n (now (folds .entry)) u) u) n ⌝ }
 {
     for u in 0..n {
         let at = u * n;
-        cross_row(
-            &mut out[at..at + n],
-            &earlier[at..at + n],
-            &folds[at..at + n],
-            n,
-            Board(u),
-            late,
-        );
+        take_fold(&mut half[at..at + n], &folds[at..at + n], n, Board(u));
     }
 }
 
-// Earliest arrivals. Room is lent for the sets and the folds.
-fn arrive(
-    out: &mut [u32],
-    earlier: &[u32],
-    later: &[u32],
-    sets: &mut [u32],
-    folds: &mut [u32],
-    n: usize,
-)
-    requires { ⌜ (n ≤ 32) × ((n * n ≡ length (now out)) × ((n * n ≤ length (now earlier)) × ((n * n ≤ length (now later)) × ((n ≡ length (now sets)) × (n * n ≡ length (now folds)))))) ⌝ }
-    ensures { λ _. ⌜ now (out .exit) ≡ rows n (crossed false n (now (earlier .entry)) (now (later .entry))) n ⌝ }
+// Earliest arrivals, over those of the earlier part: the folds are made before its rows are written. Room is lent for the sets and the folds.
+fn arrive(half: &mut [u32], later: &[u32], sets: &mut [u32], folds: &mut [u32], n: usize)
+    requires { ⌜ (n ≤ 32) × ((n * n ≡ length (now half)) × ((n * n ≤ length (now later)) × ((n ≡ length (now sets)) × (n * n ≡ length (now folds))))) ⌝ }
+    ensures { λ _. ⌜ now (half .exit) ≡ rows n (crossed false n (now (half .entry)) (now (later .entry))) n ⌝ }
 {
     let some = sets::some_rows(later, n);
-    sets::write(sets, earlier, n, some);
+    sets::write(sets, half, n, some);
     fold_rows(folds, later, sets, n, false);
-    cross_rows(out, earlier, folds, n, false);
+    fold_over(half, folds, n);
 }
 
 // ---- rows and columns exchanged
@@ -226,7 +183,7 @@ fn turn_row(out: &mut [u32], half: &[u32], n: usize, own: Board)
 
 fn turn(out: &mut [u32], half: &[u32], n: usize)
     requires { ⌜ (n ≤ 32) × ((n * n ≡ length (now out)) × (n * n ≤ length (now half))) ⌝ }
-    ensures { λ _. ⌜ now (out .exit) ≡ rows n (λ u v. cell n (now (half .entry)) v u) n ⌝ }
+    ensures { λ _. ⌜ now (out .exit) ≡ rows n (turned n (now (half .entry))) n ⌝ }
 {
     for u in 0..n {
         let at = u * n;
@@ -234,44 +191,75 @@ fn turn(out: &mut [u32], half: &[u32], n: usize)
     }
 }
 
-// Latest departures: columns for rows, and the later part for the earlier. Room is lent for the sets and for a turned table: first that of the
-// earlier part, then that of the folds, which are made in half.
-fn depart(
-    half: &mut [u32],
-    left: &[u32],
-    right: &[u32],
-    sets: &mut [u32],
-    far: &mut [u32],
-    n: usize,
-)
-    requires { ⌜ (n ≤ 32) × ((n * n ≡ length (now half)) × ((n * n ≤ length (now left)) × ((n * n ≤ length (now right)) × ((n ≡ length (now sets)) × (n * n ≡ length (now far)))))) ⌝ }
-    ensures { λ _. ⌜ now (half .exit) ≡ departures n (now (left .entry)) (now (right .entry)) ⌝ }
+// ---- departures
+
+fn both_later(out: &mut [u32], row: &[u32], joined: &[u32], n: usize)
+    requires { ⌜ (n ≡ length (now out)) × ((n ≡ length (now row)) × (n ≡ length (now joined))) ⌝ }
+    ensures { λ _. ⌜ now (out .exit) ≡ tab (each later (now (row .entry)) (now (joined .entry))) n ⌝ }
+{
+    for v in 0..n {
+        out[v] = the_later(row[v], joined[v]);
+    }
+}
+
+// A row of the composition: the row of the later part with its fold, and no time for the board itself.
+fn cross_row(out: &mut [u32], row: &[u32], joined: &[u32], n: usize, own: Board)
+    requires { ⌜ (own .0 < n) × ((n ≡ length (now out)) × ((n ≡ length (now row)) × (n ≡ length (now joined)))) ⌝ }
+    ensures { λ _. ⌜ now (out .exit) ≡ tab (joinedRow true (λ v. getD (now (row .entry)) v 0) (λ v. getD (now (joined .entry)) v 0) (own .0)) n ⌝ }
+{
+    let u = own.0;
+    both_later(out, row, joined, n);
+    out[u] = 0;
+}
+
+fn cross_rows(out: &mut [u32], half: &[u32], folds: &[u32], n: usize)
+    requires { ⌜ (n ≤ 32) × ((n * n ≡ length (now out)) × ((n * n ≤ length (now half)) × (n * n ≤ length (now folds)))) ⌝ }
+    ensures { λ _. ⌜ now (out .exit) ≡ rows n (λ u. joinedRow true (cell n (now (half .entry)) u) (cell n (now (folds .entry)) u) u) n ⌝ }
+{
+    for u in 0..n {
+        let at = u * n;
+        cross_row(
+            &mut out[at..at + n],
+            &half[at..at + n],
+            &folds[at..at + n],
+            n,
+            Board(u),
+        );
+    }
+}
+
+// The earlier part turned, in far, and the sets of the columns of the later part.
+fn column_sets(sets: &mut [u32], far: &mut [u32], left: &[u32], right: &[u32], n: usize)
+    requires { ⌜ (n ≤ 32) × ((n * n ≤ length (now left)) × ((n * n ≤ length (now right)) × ((n ≡ length (now sets)) × (n * n ≡ length (now far))))) ⌝ }
+    ensures { λ _. ⌜ (now (far .exit) ≡ rows n (turned n (now (left .entry))) n) × (now (sets .exit) ≡ tab (columnSet n (now (right .entry)) (now (far .exit))) n) ⌝ }
 {
     turn(far, left, n);
     let some = sets::some_rows(far, n);
     sets::write_columns(sets, right, n, some);
+}
+
+// Latest departures, over those of the earlier part: columns for rows, and the later part for the earlier. Room is lent for the sets and for
+// a turned table: first that of the earlier part, before the folds are made over it in half, then that of the folds.
+fn depart(half: &mut [u32], right: &[u32], sets: &mut [u32], far: &mut [u32], n: usize)
+    requires { ⌜ (n ≤ 32) × ((n * n ≡ length (now half)) × ((n * n ≤ length (now right)) × ((n ≡ length (now sets)) × (n * n ≡ length (now far))))) ⌝ }
+    ensures { λ _. ⌜ now (half .exit) ≡ departures n (now (half .entry)) (now (right .entry)) ⌝ }
+{
+    column_sets(sets, far, half, right, n);
     fold_rows(half, far, sets, n, true);
     turn(far, half, n);
-    cross_rows(half, right, far, n, true);
+    cross_rows(half, right, far, n);
 }
 
 // ---- composition
 
 // Both halves, with room lent for sets and for a table.
-fn compose_in(
-    out: &mut [u32],
-    left: &[u32],
-    right: &[u32],
-    sets: &mut [u32],
-    room: &mut [u32],
-    n: usize,
-)
-    requires { ⌜ (n ≤ 32) × ((n * n + n * n ≡ length (now out)) × ((n * n + n * n ≤ length (now left)) × ((n * n + n * n ≤ length (now right)) × ((n ≡ length (now sets)) × (n * n ≡ length (now room)))))) ⌝ }
-    ensures { λ _. ⌜ now (out .exit) ≡ composeTimes n (now (left .entry)) (now (right .entry)) ⌝ }
+fn compose_in(t: &mut [u32], right: &[u32], sets: &mut [u32], room: &mut [u32], n: usize)
+    requires { ⌜ (n ≤ 32) × ((n * n + n * n ≡ length (now t)) × ((n * n + n * n ≤ length (now right)) × ((n ≡ length (now sets)) × (n * n ≡ length (now room))))) ⌝ }
+    ensures { λ _. ⌜ now (t .exit) ≡ composeTimes n (now (t .entry)) (now (right .entry)) ⌝ }
 {
     let m = n * n;
-    arrive(&mut out[0..m], left, right, sets, room, n);
-    depart(&mut out[m..m + m], &left[m..], &right[m..], sets, room, n);
+    arrive(&mut t[0..m], right, sets, room, n);
+    depart(&mut t[m..m + m], &right[m..], sets, room, n);
 }
 
 fn no_times() -> [u32; 1024]
@@ -280,13 +268,13 @@ fn no_times() -> [u32; 1024]
     [0u32; 1024]
 }
 
-// Writes over out the composition of left, the earlier part, and right, the later part.
-pub fn compose(out: &mut [u32], left: &[u32], right: &[u32], n: usize)
-    requires { ⌜ (n ≤ 32) × ((n * n + n * n ≡ length (now out)) × ((n * n + n * n ≤ length (now left)) × (n * n + n * n ≤ length (now right)))) ⌝ }
-    ensures { λ _. ⌜ now (out .exit) ≡ composeTimes n (now (left .entry)) (now (right .entry)) ⌝ }
+// t, the earlier part, becomes its composition with right, the later part.
+pub fn compose_over(t: &mut [u32], right: &[u32], n: usize)
+    requires { ⌜ (n ≤ 32) × ((n * n + n * n ≡ length (now t)) × (n * n + n * n ≤ length (now right))) ⌝ }
+    ensures { λ _. ⌜ now (t .exit) ≡ composeTimes n (now (t .entry)) (now (right .entry)) ⌝ }
 {
     let m = n * n;
     let mut sets = lists::no_words();
     let mut room = no_times();
-    compose_in(out, left, right, &mut sets[0..n], &mut room[0..m], n);
+    compose_in(t, right, &mut sets[0..n], &mut room[0..m], n);
 }

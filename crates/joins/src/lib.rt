@@ -1,11 +1,13 @@
 // The pairs of boards that are joined: over two parts of a recording, by the composition of measure 3, and within one pick, its own table. A table
 // is that of `links`: n words, 2 to 32, bit v of word u for the pair u, v. Words are taken as they are found.
 ghost use mathlib.Core.Path.{_≡_};
-ghost use Prim.Native.Nat.{_+_, _≤_, _<_};
-ghost use lib.ListN.{length};
-ghost use Rattle.lists.specs.Tab.{tab, padded};
-ghost use Rattle.links.specs.Tables.{union, throughRow, compose, within};
+ghost use mathlib.Core.List.{[]};
+ghost use Prim.Native.Nat.{_+_, _/_, _%_, _^_, _≤_, _<_};
+ghost use lib.ListN.{length, getD};
+ghost use Rattle.lists.specs.Tab.{tab, padded, every};
+ghost use Rattle.links.specs.Tables.{union, throughRow, compose, within, full};
 ghost use Rattle.joins.specs.Columns.{columnRow, fourRow};
+ghost use Rattle.joins.specs.LookUps.{unionsOf, tablesFrom, lookedWord, lookedRow, lookedFull};
 ghost use Rattle.joins.specs.Warshall.{pass, passes, clearRow, Into};
 use model::Board;
 
@@ -82,14 +84,166 @@ fn add_columns(out: &mut [u32], left: &[u32], right: &[u32], n: usize)
     }
 }
 
-// The union, and the pairs that are joined over some board.
-pub fn join(out: &mut [u32], left: &[u32], right: &[u32], n: usize)
+// The composition by columns: the union, and the pairs that are joined over some board.
+fn join_columns(out: &mut [u32], left: &[u32], right: &[u32], n: usize)
     requires { ⌜ (n ≤ 32) × ((n ≡ length (now out)) × ((n ≤ length (now left)) × (n ≤ length (now right)))) ⌝ }
     ensures { λ _. ⌜ now (out .exit) ≡ compose n (now (left .entry)) (now (right .entry)) ⌝ }
 {
     links::unite(out, left, right, n);
     add_columns(out, left, right, n);
     clear_own(out, n);
+}
+
+// The unions of rows k to k + 3: entry i has the union of those that i has the bit of, so that four boards of a row cost one look-up.
+fn unions(rows: &[u32; 32], k: usize) -> [u32; 16]
+    requires { ⌜ k + 4 ≤ 32 ⌝ }
+    ensures { λ r. ⌜ r ≡ unionsOf (now (rows .entry)) k ⌝ }
+{
+    let a = rows[k];
+    let b = rows[k + 1];
+    let c = rows[k + 2];
+    let d = rows[k + 3];
+    let ab = a | b;
+    let ac = a | c;
+    let bc = b | c;
+    let abc = ab | c;
+    [
+        0,
+        a,
+        b,
+        ab,
+        c,
+        ac,
+        bc,
+        abc,
+        d,
+        a | d,
+        b | d,
+        ab | d,
+        c | d,
+        ac | d,
+        bc | d,
+        abc | d,
+    ]
+}
+
+// The tables of all rows, four by four. Rows of zero add nothing.
+fn tables(rows: &[u32; 32]) -> [[u32; 16]; 8]
+    ensures { λ r. ⌜ r ≡ tablesFrom (now (rows .entry)) 0 8 ⌝ }
+{
+    [
+        unions(rows, 0),
+        unions(rows, 4),
+        unions(rows, 8),
+        unions(rows, 12),
+        unions(rows, 16),
+        unions(rows, 20),
+        unions(rows, 24),
+        unions(rows, 28),
+    ]
+}
+
+// What the four bits of `row` from bit k on find in table j.
+fn look_up(ts: &[[u32; 16]; 8], j: usize, row: u32, k: u32) -> u32
+    requires { ⌜ (j < 8) × (k < 32) ⌝ }
+    ensures { λ r. ⌜ r ≡ getD (getD (now (ts .entry)) j []) (row / 2 ^ k % 16) 0 ⌝ }
+{
+    let i = ((row >> k) % 16) as usize;
+    ts[j][i]
+}
+
+// The word x of board b with its own bit, which leads on to its row in the later part, and what the eight tables have for it.
+fn through(x: u32, b: Board, ts: &[[u32; 16]; 8]) -> u32
+    requires { ⌜ b .0 < 32 ⌝ }
+    ensures { λ r. ⌜ r ≡ lookedWord (now (ts .entry)) x (b .0) ⌝ }
+{
+    let u = b.0;
+    let row = x | (1u32 << u);
+    row
+        | look_up(ts, 0, row, 0)
+        | look_up(ts, 1, row, 4)
+        | look_up(ts, 2, row, 8)
+        | look_up(ts, 3, row, 12)
+        | look_up(ts, 4, row, 16)
+        | look_up(ts, 5, row, 20)
+        | look_up(ts, 6, row, 24)
+        | look_up(ts, 7, row, 28)
+}
+
+// The rows of the composition, each from its own word alone, and so in place.
+fn join_rows(t: &mut [u32], ts: &[[u32; 16]; 8], n: usize)
+    requires { ⌜ (n ≤ 32) × (n ≡ length (now t)) ⌝ }
+    ensures { λ _. ⌜ now (t .exit) ≡ tab (lookedRow (now (ts .entry)) (now (t .entry))) n ⌝ }
+{
+    for u in 0..n {
+        t[u] = links::cleared(through(t[u], Board(u), ts), Board(u));
+    }
+}
+
+// The composition by tables of unions, in place.
+fn join_tables(t: &mut [u32], right: &[u32], n: usize)
+    requires { ⌜ (n ≤ 32) × ((n ≡ length (now t)) × (n ≡ length (now right))) ⌝ }
+    ensures { λ _. ⌜ now (t .exit) ≡ compose n (now (t .entry)) (now (right .entry)) ⌝ }
+{
+    let later = lists::load(right, n);
+    let ts = tables(&later);
+    join_rows(t, &ts, n);
+}
+
+// 1 for a row that has links.
+fn one_if(row: u32) -> usize
+    ensures { λ r. ⌜ r ≤ 1 ⌝ }
+{
+    if row == 0 { 0 } else { 1 }
+}
+
+// How many rows have links.
+fn filled(t: &[u32], n: usize) -> usize
+    requires { ⌜ n ≤ length (now t) ⌝ }
+{
+    let mut k = 0usize;
+    for u in 0..n {
+        k += one_if(t[u]);
+    }
+    k
+}
+
+// The later part is composed onto t, the earlier one. Where few of its rows have links, their columns cost less than the tables; they read the
+// earlier part as it was, so it is copied first.
+pub fn join_over(t: &mut [u32], right: &[u32], n: usize)
+    requires { ⌜ (n ≤ 32) × ((n ≡ length (now t)) × (n ≡ length (now right))) ⌝ }
+    ensures { λ _. ⌜ now (t .exit) ≡ compose n (now (t .entry)) (now (right .entry)) ⌝ }
+{
+    if filled(right, n) <= 8 {
+        let before = lists::load(t, n);
+        join_columns(t, &before[0..n], right, n);
+        return;
+    }
+    join_tables(t, right, n);
+}
+
+// Whether every row of the composition has the bits of all boards, its own counted in. The first that lacks one ends it.
+fn are_full(left: &[u32], ts: &[[u32; 16]; 8], n: usize) -> bool
+    requires { ⌜ (n ≤ 32) × (n ≤ length (now left)) ⌝ }
+    ensures { λ r. ⌜ r ≡ every (lookedFull n (now (ts .entry)) (now (left .entry))) n ⌝ }
+{
+    let all = searches::low_bits(n);
+    for u in 0..n {
+        if through(left[u], Board(u), ts) & all != all {
+            return false;
+        }
+    }
+    true
+}
+
+// Whether the composition marks every ordered pair of different boards, without writing it.
+pub fn joins_full(left: &[u32], right: &[u32], n: usize) -> bool
+    requires { ⌜ (n ≤ 32) × ((n ≤ length (now left)) × (n ≡ length (now right))) ⌝ }
+    ensures { λ r. ⌜ r ≡ full n (compose n (now (left .entry)) (now (right .entry))) ⌝ }
+{
+    let later = lists::load(right, n);
+    let ts = tables(&later);
+    are_full(left, &ts, n)
 }
 
 // ---- a pick's own table

@@ -67,7 +67,7 @@ pub bit-below : {n w : ℕ} (x : ℕ) → x < 2 ^ n → T (bit x w) → w < n
 bit-below {n} {w} x h m = ⊎-elim (λ (l : n ≤ w). absurd (tr (bit-high x w (lt-of-lt-of-le h (pow-mono l))) m)) (λ (l : w < n). l) (le-or-lt n w)
 
 -- the bits gathered: those of x, and those of the words that the row has the bit of
-gathered-bit : (x row : ℕ) (t : List ℕ) (v k : ℕ) → T (bit (gathered x row t k) v) ↔ (T (bit x v) ⊎ ((w : ℕ) × (w < k) × T (bit row w) × T (link t w v)))
+pub gathered-bit : (x row : ℕ) (t : List ℕ) (v k : ℕ) → T (bit (gathered x row t k) v) ↔ (T (bit x v) ⊎ ((w : ℕ) × (w < k) × T (bit row w) × T (link t w v)))
 unfolding gathered link
 gathered-bit x row t v zero = (λ b. inl b, λ c. ⊎-elim (λ (b : T (bit x v)). b) (λ (b : (w : ℕ) × (w < 0) × T (bit row w) × T (bit (getD t w 0) v)). absurd (not-suc-le-zero (b .1))) c)
 gathered-bit x row t v (suc k) =

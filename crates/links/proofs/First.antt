@@ -1,11 +1,10 @@
 -- The first board of a set: as many zeros stand below it. Assumes nothing.
-use mathlib.Core.Path.{_≡_, refl, sym, ap, _∙_, subst}
+use mathlib.Core.Path.{_≡_, sym, subst}
 use mathlib.Core.Logic.{_≢_, _⊎_, ⊎-elim}
-use mathlib.Core.Bool.{Bool, false, true}
-use Prim.Native.Nat.{ℕ, zero, suc, _/_, _%_, _^_, _≤_, _<_}
+use Prim.Native.Nat.{ℕ, zero, suc, _/_, _%_, _^_, _<_}
 use native.Mathlib.Omega.{arith}
 use lib.Count.{trailingZeros, under}
-use lib.Dec.{T, eqb}
+use lib.Dec.{T}
 use Rattle.model.specs.Recording.{bit}
 use Rattle.model.proofs.Logic.{tr, eq-or, eq-refl}
 use Rattle.model.proofs.Bits.{bit-zero, bit-suc}

@@ -27,8 +27,8 @@ pub fn cleared(x: u32, b: Board) -> u32
     x & !(1u32 << v)
 }
 
-// The first board of a set that has one.
-pub fn first_of(set: u32) -> usize
+// A board of a set that has one: the first, but only that it is one is promised.
+pub fn board_in(set: u32) -> usize
     requires { ⌜ set ≢ 0 ⌝ }
     ensures { λ r. ⌜ (r < 32) × T (bit set r) ⌝ }
 {
@@ -46,16 +46,6 @@ pub fn fill_rows(out: &mut [u32], boards: u32, n: usize)
 }
 
 // ---- compositions: each writes one table over the n words of out
-
-// The links open in both.
-pub fn intersect(out: &mut [u32], left: &[u32], right: &[u32], n: usize)
-    requires { ⌜ (n ≡ length (now out)) × ((n ≤ length (now left)) × (n ≤ length (now right))) ⌝ }
-    ensures { λ _. ⌜ now (out .exit) ≡ intersection n (now (left .entry)) (now (right .entry)) ⌝ }
-{
-    for u in 0..n {
-        out[u] = left[u] & right[u];
-    }
-}
 
 // The links open in either.
 pub fn unite(out: &mut [u32], left: &[u32], right: &[u32], n: usize)
@@ -87,17 +77,28 @@ pub fn intersect_into(t: &mut [u32], right: &[u32], n: usize)
     }
 }
 
-// ---- a test
+// ---- tests: the bits that differ are gathered, so that the loop has no branch
 
 // Whether the n words of the table are those of the footprint.
 pub fn is_same(footprint: &[u32], t: &[u32], n: usize) -> bool
     requires { ⌜ (n ≤ length (now footprint)) × (n ≤ length (now t)) ⌝ }
     ensures { λ r. ⌜ r ≡ same n (now (footprint .entry)) (now (t .entry)) ⌝ }
 {
+    let mut bad = 0u32;
     for u in 0..n {
-        if t[u] != footprint[u] {
-            return false;
-        }
+        bad = bad | (t[u] ^ footprint[u]);
     }
-    true
+    bad == 0
+}
+
+// Whether the n words of a list are those of the union of left and right. The union is not written.
+pub fn is_union(list: &[u32], left: &[u32], right: &[u32], n: usize) -> bool
+    requires { ⌜ (n ≤ length (now list)) × ((n ≤ length (now left)) × (n ≤ length (now right))) ⌝ }
+    ensures { λ r. ⌜ r ≡ same n (now (list .entry)) (union n (now (left .entry)) (now (right .entry))) ⌝ }
+{
+    let mut bad = 0u32;
+    for u in 0..n {
+        bad = bad | ((left[u] | right[u]) ^ list[u]);
+    }
+    bad == 0
 }

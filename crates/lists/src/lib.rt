@@ -51,6 +51,13 @@ pub fn no_words() -> [u32; 32]
     [0u32; 32]
 }
 
+// As many zeros as the largest table has words.
+pub fn no_times() -> [u32; 2048]
+    ensures { λ r. ⌜ r ≡ zeros 2048 ⌝ }
+{
+    [0u32; 2048]
+}
+
 // The n words of xs by value, and zeros up to 32.
 pub fn load(xs: &[u32], n: usize) -> [u32; 32]
     requires { ⌜ (n ≤ 32) × (n ≡ length (now xs)) ⌝ }

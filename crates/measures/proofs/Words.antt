@@ -1,11 +1,13 @@
 -- E and the composition, as tests of the measure say them. Assumes nothing.
 use mathlib.Core.Path.{_≡_}
+use mathlib.Core.Logic.{_≢_}
 use mathlib.Core.List.{List}
-use Prim.Native.Nat.{ℕ, _+_, _*_, _≤_}
+use Prim.Native.Nat.{ℕ, _+_, _*_}
 use native.Mathlib.Omega.{arith}
 use borrow.Author.Tests.{eq-eqb, ne-eqb}
-use Rattle.links.specs.Tables.{intersection, union}
-use Rattle.measures.specs.Kit.{widthOf, joinOf}
+use Rattle.links.specs.Tables.{intersection, union, compose, full, same}
+use Rattle.times.specs.Times.{composeTimes}
+use Rattle.measures.specs.Kit.{widthOf, ownOf, joinOf, passOf}
 
 pub width-times : (measure n : ℕ) → measure ≡ 4 → widthOf measure n ≡ n * n + n * n
 unfolding widthOf
@@ -19,6 +21,29 @@ pub join-union : (measure n : ℕ) (s t : List ℕ) → measure ≡ 2 → union 
 unfolding joinOf
 join-union measure n s t e = simp (ne-eqb measure 4 (λ f. omega arith), ne-eqb measure 3 (λ f. omega arith), eq-eqb measure 2 e)
 
-pub join-common : (measure n : ℕ) (s t : List ℕ) → measure ≤ 2 → (measure ≡ 2 → ⊥) → intersection n s t ≡ joinOf measure n s t
+pub join-common : (measure n : ℕ) (s t : List ℕ) → measure ≢ 4 → measure ≢ 3 → measure ≢ 2 → intersection n s t ≡ joinOf measure n s t
 unfolding joinOf
-join-common measure n s t h f = simp (ne-eqb measure 4 (λ e. omega arith), ne-eqb measure 3 (λ e. omega arith), ne-eqb measure 2 f)
+join-common measure n s t f g h = simp (ne-eqb measure 4 f, ne-eqb measure 3 g, ne-eqb measure 2 h)
+
+pub join-reach : (measure n : ℕ) (s t : List ℕ) → measure ≡ 3 → compose n s t ≡ joinOf measure n s t
+unfolding joinOf
+join-reach measure n s t e = simp (ne-eqb measure 4 (λ f. omega arith), eq-eqb measure 3 e)
+
+pub join-times : (measure n : ℕ) (s t : List ℕ) → measure ≡ 4 → composeTimes n s t ≡ joinOf measure n s t
+unfolding joinOf
+join-times measure n s t e = simp (eq-eqb measure 4 e)
+
+-- the own table of a pick, where it is the pick's words
+pub own-words : (measure n i : ℕ) (w : List ℕ) → measure ≢ 4 → measure ≢ 3 → ownOf 31 measure n i w ≡ w
+unfolding ownOf
+own-words measure n i w f g = simp (ne-eqb measure 4 f, ne-eqb measure 3 g)
+
+-- ---- the test of a composition
+
+pub pass-reach : (measure n : ℕ) (f s t : List ℕ) → measure ≡ 3 → full n (compose n s t) ≡ passOf 0 measure n f (joinOf measure n s t)
+unfolding passOf joinOf
+pass-reach measure n f s t e = simp (ne-eqb measure 4 (λ g. omega arith), eq-eqb measure 3 e)
+
+pub pass-union : (measure n : ℕ) (f s t : List ℕ) → measure ≡ 2 → same n f (union n s t) ≡ passOf 0 measure n f (joinOf measure n s t)
+unfolding passOf joinOf
+pass-union measure n f s t e = simp (ne-eqb measure 4 (λ g. omega arith), ne-eqb measure 3 (λ g. omega arith), eq-eqb measure 2 e)

@@ -1,6 +1,7 @@
-// What the walk needs of each measure: the words of a table, a pick's own table, the composition of two tables, the test of one.
-// Only these functions go by the measure's number, 1 to 4.
+// What the walk needs of each measure: the words of a table, a pick's own table, the composition where it goes word by word, the test of a table. The
+// compositions of measures 3 and 4 are those of `joins` and `folds`.
 ghost use mathlib.Core.Path.{_≡_};
+ghost use mathlib.Core.Logic.{_≢_};
 ghost use Prim.Native.Nat.{_+_, _*_, _^_, _≤_, _<_};
 ghost use lib.ListN.{length};
 ghost use Rattle.links.specs.Tables.{within};
@@ -16,29 +17,9 @@ pub fn width(measure: usize, n: usize) -> usize
     if measure == 4 { n * n + n * n } else { n }
 }
 
-// Writes over out the composition of left, the earlier part, and right, the later part.
-pub fn compose(out: &mut [u32], left: &[u32], right: &[u32], measure: usize, n: usize)
-    requires { ⌜ (n ≤ 32) × ((widthOf measure n ≡ length (now out)) × ((widthOf measure n ≤ length (now left)) × (widthOf measure n ≤ length (now right)))) ⌝ }
-    ensures { λ _. ⌜ now (out .exit) ≡ joinOf measure n (now (left .entry)) (now (right .entry)) ⌝ }
-{
-    if measure == 4 {
-        folds::compose(out, left, right, n);
-        return;
-    }
-    if measure == 3 {
-        joins::join(out, left, right, n);
-        return;
-    }
-    if measure == 2 {
-        links::unite(out, left, right, n);
-        return;
-    }
-    links::intersect(out, left, right, n);
-}
-
-// Writes over t, the earlier part, its composition with right, the later: for the measures whose tables compose word by word.
-pub fn compose_over(t: &mut [u32], right: &[u32], measure: usize, n: usize)
-    requires { ⌜ (measure ≤ 2) × ((n ≡ length (now t)) × (n ≤ length (now right))) ⌝ }
+// Composes right, the later table, onto t, the earlier: for the measures whose tables compose word by word, which are 1 and 2.
+pub fn compose_words(t: &mut [u32], right: &[u32], measure: usize, n: usize)
+    requires { ⌜ (measure ≢ 4) × (measure ≢ 3) × (n ≡ length (now t)) × (n ≤ length (now right)) ⌝ }
     ensures { λ _. ⌜ now (t .exit) ≡ joinOf measure n (now (t .entry)) (now (right .entry)) ⌝ }
 {
     if measure == 2 {

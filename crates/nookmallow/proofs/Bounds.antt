@@ -3,32 +3,30 @@ use mathlib.Core.Path.{_≡_, refl, sym, ap, ap₂, _∙_, subst}
 use mathlib.Core.Bool.{Bool, true, false, _&&_, not}
 use mathlib.Core.Option.{none, some}
 use mathlib.Core.List.{List}
-use Prim.Native.Nat.{ℕ, zero, suc, _+_, _-_, _/_, _≤_, _<_, _^_}
+use Prim.Native.Nat.{ℕ, _+_, _-_, _/_, _≤_, _<_, _^_}
 use native.Mathlib.Nat.{le-refl}
-use native.Mathlib.Numerals.{add-one}
 use native.Mathlib.Omega.{arith}
 use lib.Dec.{eqb, eqb→eq, ltb, lit<}
 use lib.ListN.{length}
 use Rattle.model.specs.declared.Refusal.{Refusal}
 use Rattle.model.specs.Refusals.{number}
 use Rattle.model.proofs.Refusals.{number-some}
-use Rattle.checks.specs.Lent.{lentPick}
-use Rattle.measures.specs.Kit.{Kit, kit, either}
+use Rattle.measures.specs.Kit.{either}
 use Rattle.place.specs.declared.Place.{Place}
 use Rattle.place.specs.Places.{fresh, nowhere, charged, soundPlace, Sound}
 use Rattle.place.proofs.Laws.{sound-says}
 use Rattle.verdicts.specs.Verdicts.{openVerdict, pickVerdict, wholeVerdict}
 use Rattle.verdicts.specs.Fit.{Runs}
 use Rattle.verdicts.proofs.Verdicts.{open-sound, pick-sound, whole-sound}
-use Rattle.steps.specs.Walk.{State, kitOf, stepped, reported}
+use Rattle.steps.specs.Walk.{State, reported}
 use Rattle.steps.proofs.Ready.{Stepped, stepped-grown, sound-ready}
 use Rattle.steps.proofs.Frames.{either-ind}
 use Rattle.calls.specs.Answers.{Handed, handed, outcome}
-use Rattle.calls.specs.Calls.{openSays, pickSays, pickLeaves, reportSays, lengthSays, unions, stepsOf, wholeStart, wholeAfter, wholeReport, wholeSays}
+use Rattle.calls.specs.Calls.{openSays, pickSays, pickLeaves, reportSays, lengthSays, unions, wholeStart, wholeAfter, wholeReport, wholeSays}
 use Rattle.calls.specs.Fit.{Starts}
 use Rattle.calls.proofs.Taken.{taken-state, refused-state}
 use Rattle.calls.proofs.Opened.{opened-length}
-use Rattle.calls.proofs.Loops.{Along, along-start, along-turn, whole-starts, list-cost, length-unions}
+use Rattle.calls.proofs.Loops.{walked, whole-starts, list-cost, length-unions}
 use Rattle.crossing.specs.declared.PlaceWords.{PlaceWords}
 use Rattle.crossing.specs.declared.HandedWords.{HandedWords}
 use Rattle.crossing.specs.Words.{flags, placeOf, wordsOf, handedAs, handedWords, Narrow, NarrowAnswer}
@@ -144,28 +142,15 @@ module _ (n measure m : ℕ) (w a : List ℕ) (r : Runs n measure m w a) where
       whole-starts n measure m _ w a r (list-cost measure m (r .cap)) refl
       (opened-length n measure m (unions n w m) a (r .room) (λ e. sym (length-unions n w m (omega arith))))
 
-  abbrev after : ℕ → State
-  after k = stepsOf (kitOf (start .place)) (start .place .boards) w k start
-
-  -- the steps keep what `whole_steps` keeps
-  along : (k : ℕ) → k ≤ m → Along (start .place) w (start .area) m k (after k .place) (after k .area)
-  unfolding stepsOf
-  along zero h = along-start _ _ _ _ starts
-  along (suc k) h =
-      let g = along k (omega arith) in
-      let e : kitOf (start .place) ≡ kitOf (after k .place) = sym (ap₂ kit (g .measure) (g .boards)) in
-      subst (λ (i : ℕ). Along (start .place) w (start .area) m i (after (suc k) .place) (after (suc k) .area)) (add-one k)
-      (along-turn g h (ap (λ (K : Kit). stepped K (lentPick (start .place .boards) w k) (after k) .place) e, ap (λ (K : Kit). stepped K (lentPick (start .place .boards) w k) (after k) .area) e))
-
   run-narrow : NarrowAnswer (wholeReport n measure m w a)
   unfolding wholeReport wholeAfter wholeStart charged fresh
   run-narrow =
-      let g = along m (le-refl m) in
+      let g = walked (start .place) w (start .area) m starts m (le-refl m) in
       let t = g .taken in
       let c = g .comps in
       let y = g .tests in
       let l = r .cap in
-      reported-small (after m .place) (omega arith) (omega arith) (omega arith)
+      reported-small (wholeAfter n measure m w a m .place) (omega arith) (omega arith) (omega arith)
 
 pub whole-narrow : (n measure : ℕ) (w a : List ℕ) → NarrowAnswer (wholeSays n measure w a)
 unfolding wholeSays

@@ -54,6 +54,21 @@ pickTaken p = record {
   tests = p .tests;
 }
 
+-- k picks more
+unfoldable pub picksTaken : Place → ℕ → Place
+picksTaken p k = record {
+  boards = p .boards;
+  measure = p .measure;
+  limit = p .limit;
+  taken = record { 0 = p .taken .0 + k };
+  start = p .start;
+  boundary = p .boundary;
+  failed = p .failed;
+  passed = p .passed;
+  compositions = p .compositions;
+  tests = p .tests;
+}
+
 -- the start moved on by k
 unfoldable pub startMoved : Place → ℕ → Place
 startMoved p k = record {

@@ -1,7 +1,7 @@
 // The place of a walk: the record that every call is handed and hands back, the steps it takes, and cause 16.
 ghost use mathlib.Core.Path.{_≡_};
 ghost use Prim.Native.Nat.{_≤_};
-ghost use Rattle.place.specs.Places.{fresh, pickTaken, startMoved, turned, charged, tested, between, inRange, soundWindow, soundStart, soundMarks, soundCounts, soundPlace};
+ghost use Rattle.place.specs.Places.{fresh, pickTaken, picksTaken, startMoved, turned, charged, tested, between, inRange, soundWindow, soundStart, soundMarks, soundCounts, soundPlace};
 use model::Compositions;
 use model::Pick;
 use model::Tests;
@@ -140,6 +140,17 @@ impl Place {
     {
         let m = self.taken;
         let more = Pick(m.0 + 1);
+        self.taken = more;
+        self
+    }
+
+    // k picks more.
+    pub fn picks_taken(mut self, k: usize) -> Place
+        requires { ⌜ (self .taken .0 ≤ 4096) × (k ≤ 4096) ⌝ }
+        ensures { λ r. ⌜ r ≡ picksTaken self k ⌝ }
+    {
+        let m = self.taken;
+        let more = Pick(m.0 + k);
         self.taken = more;
         self
     }

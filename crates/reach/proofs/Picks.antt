@@ -10,8 +10,6 @@ use lib.Dec.{T, eqb, eqb→eq, ltb}
 use lib.ListN.{length, take}
 use lib.Seq.{length-take-le}
 use Rattle.model.proofs.Logic.{tr, eq-refl}
-use Rattle.lists.specs.Tab.{padded}
-use Rattle.lists.proofs.Tab.{take-padded}
 use Rattle.links.specs.Tables.{compose, within}
 use Rattle.links.specs.Composed.{composedFrom, composed, reach}
 use Rattle.checks.specs.Lent.{lentPick, lentPicks, cleanPicks}
@@ -81,10 +79,6 @@ tables-verdict n w out o =
     (stop-step 3 (long-enough 4096 (length w / n) (o .cap))
     (stop-step 4 (long-enough (length out) n (o .room))
     (stop-step 5 (passes (cleanPicks n w (length w / n)) (o .clean)) refl))))))
-
--- the words of a copied table
-pub load-words : (n : ℕ) (w x : List ℕ) → n ≡ length w → x ≡ padded 32 w → take (n - 0) x ≡ w
-load-words n w x e q = ap₂ take (sub-zero n) q ∙ take-padded 32 n w (sym e)
 
 -- one turn of the loop
 pub reach-turn : (n k : ℕ) (w out out′ p : List ℕ) → 1 ≤ k → out ≡ reach n 31 (lentPicks n w k) → p ≡ lentPick n w k → out′ ≡ compose n out (within n 31 p) → out′ ≡ reach n 31 (lentPicks n w (k + 1))

@@ -16,14 +16,13 @@ pub enum Tabled {
     Refused(Refusal),
 }
 
-// The table takes in one pick more. A composition never reads what it writes, so the table is copied first.
+// The table takes in one pick more: the pick's own table is composed onto it.
 fn add_pick(out: &mut [u32], pick: &[u32], n: usize)
     requires { ⌜ (n ≤ 32) × ((n ≡ length (now out)) × (n ≡ length (now pick))) ⌝ }
     ensures { λ _. ⌜ now (out .exit) ≡ compose n (now (out .entry)) (within n 31 (now (pick .entry))) ⌝ }
 {
-    let before = lists::load(out, n);
     let own = joins::closed_words(pick, n);
-    joins::join(out, &before[0..n], &own[0..n], n);
+    joins::join_over(out, &own[0..n], n);
 }
 
 // The table of m picks, from the first one on.

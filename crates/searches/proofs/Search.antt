@@ -20,7 +20,7 @@ use Rattle.lists.specs.Tab.{kept}
 use Rattle.lists.proofs.Tab.{every-in, every-out}
 use Rattle.links.specs.Tables.{without, within, pairFull, rowFull, full}
 use Rattle.links.proofs.Bits.{bit-kept, bit-left, without-less, bit-below, without-lt}
-use Rattle.links.proofs.Ways.{Way, one, more, snoc, Short, last-link, within-way, way-short, Led, onward}
+use Rattle.links.proofs.Ways.{Way, one, more, snoc, Short, within-way, way-short, Led, onward}
 use Rattle.searches.specs.Search.{leading, collect, sidePair, sideFull}
 
 -- v is board 0, or links over boards below n lead from there to v, or with `back` from v to there
@@ -43,7 +43,7 @@ some-bit (suc m) x h ne =
     ⊎-elim (λ (e : x % 2 ≡ 1). (0, tr (sym (bit-zero x)) (eq-refl e)))
     (λ (e : x % 2 ≢ 1). let q = some-bit m (x / 2) (omega arith) (λ z. ne (omega arith)) in (suc (q .0), tr (sym (bit-suc x (q .0))) (q .1))) (eq-or (x % 2) 1)
 
-below-pow : (x : ℕ) → x < 2 ^ x
+pub below-pow : (x : ℕ) → x < 2 ^ x
 below-pow zero = omega arith
 below-pow (suc x) = omega (arith, below-pow x)
 

@@ -8,7 +8,7 @@ ghost use Rattle.searches.specs.Search.{leading, collect, sideFull};
 use model::Board;
 
 // The word of the bits below n.
-fn low_bits(n: usize) -> u32
+pub fn low_bits(n: usize) -> u32
     requires { ⌜ n ≤ 32 ⌝ }
     ensures { λ r. ⌜ r ≡ 2 ^ n - 1 ⌝ }
 {
@@ -44,7 +44,7 @@ fn reaches_all(t: &[u32], n: usize) -> bool
     let mut s = 1u32;
     let mut rest = all;
     while s & rest != 0 {
-        let w = links::first_of(s & rest);
+        let w = links::board_in(s & rest);
         s = s | t[w];
         if s & all == all {
             return true;

@@ -2,24 +2,31 @@
 use Prim.Native.Nat.{ℕ, suc, _+_, _-_, _*_, _≤_, _<_}
 use native.Mathlib.Nat.{add-zero, sub-self}
 use native.Mathlib.Omega.{arith}
-use mathlib.Core.Path.{_≡_, sym, subst}
+use mathlib.Core.Path.{_≡_, sym, ap, ap₂, _∙_, subst}
+use mathlib.Core.Logic.{_≢_}
 use mathlib.Core.Bool.{Bool}
 use mathlib.Core.List.{List}
+use lib.ListN.{length}
 use Rattle.model.specs.Journey.{val}
 use Rattle.model.proofs.Bits.{val-le}
 use Rattle.measures.specs.Kit.{Kit, kit, widthOf}
-use Rattle.area.specs.Parts.{Has, composeAt}
-use Rattle.area.proofs.Laws.{has}
+use Rattle.measures.proofs.Words.{width-links}
+use Rattle.area.specs.Parts.{Has, part, composeAt, copyAt, ownAt}
+use Rattle.area.proofs.Laws.{has, own-wide, own-same, compose-copied}
 use Rattle.place.specs.declared.Place.{Place}
 use Rattle.place.specs.Places.{pickTaken, startMoved, charged}
 use Rattle.steps.specs.Walk.{State, state, kitOf, ladder}
-use Rattle.steps.specs.Fit.{Able, In, Fit, Entry, Does}
+use Rattle.steps.specs.Fit.{Able, In, Lends, Owns, Fit, Entry, Does}
 
 -- ---- parts
 
 -- a part of the place lies in the area
 pub able-has : {p : Place} {words i : ℕ} → Able p words → In p i → Has (widthOf (p .measure) (p .boards)) words i
 able-has {p} {words} {i} a j = has (widthOf (p .measure) (p .boards)) (p .limit + 4) words i (a .room) (j .low) (j .high)
+
+-- the same where a table is one of links
+pub links-has : {p : Place} {words i : ℕ} → Able p words → p .measure ≢ 4 → In p i → Has (p .boards) words i
+links-has {p} {words} {i} a n j = subst (λ (k : ℕ). Has k words i) (width-links (p .measure) (p .boards) n) (able-has a j)
 
 pub in-part : {p : Place} (i : ℕ) → 1 ≤ i → i ≤ p .limit + 4 → In p i
 in-part i a b = record { low = a; high = b }
@@ -35,6 +42,12 @@ able-kept {p} {q} {words} b m l a = record {
       (subst (λ (x : ℕ). (q .limit + 4) * widthOf (p .measure) x ≤ words) (sym b)
       (subst (λ (x : ℕ). (x + 4) * widthOf (p .measure) (p .boards) ≤ words) (sym l) (a .room)));
 }
+
+-- ---- scratch
+
+-- what is lent keeps its length, and a place its measure and its boards
+pub lends-kept : (p q : Place) {v k : ℕ} → q .boards ≡ p .boards → q .measure ≡ p .measure → v ≡ k → Lends p k → Lends q v
+lends-kept p q b m e h = ap₂ widthOf m b ∙ h ∙ sym e
 
 -- ---- places
 
@@ -79,10 +92,39 @@ entry-by {p} {k} {i} {words} e h = subst (λ (x : ℕ). Entry p x words) (sym e)
 pub one-le : {k : ℕ} (x : Bool) → k ≡ val x → k ≤ 1
 one-le x e = omega (arith, val-le x)
 
+pub entry-lends : (p : Place) (k : ℕ) {q : Place} {n : ℕ} → q ≡ startMoved (pickTaken p) k → Lends p n → Lends q n
+unfolding startMoved pickTaken
+entry-lends p k {q} {n} e h = subst (λ (x : Place). Lends x n) (sym e) h
+
+pub moved-lends : (p : Place) {q : Place} {n : ℕ} → q ≡ startMoved p 1 → Lends p n → Lends q n
+unfolding startMoved
+moved-lends p {q} {n} e h = subst (λ (x : Place). Lends x n) (sym e) h
+
+-- the part of the new pick is the own table of its words
+pub entry-owns : {p q : Place} {k : ℕ} {w b : List ℕ} (a : List ℕ) → q ≡ startMoved (pickTaken p) k → b ≡ ownAt (kitOf p) a (p .taken .0 + 1) w → Entry p k (length a)
+    → p .boards ≡ length w → Owns q b w
+unfolding startMoved pickTaken
+entry-owns {p} {q} {k} {w} {b} a e g h n =
+    let t = h .top in
+    subst (λ (x : Place). Owns x b w) (sym e) (record {
+      shape = n;
+      own = ap (λ (x : List ℕ). part (widthOf (p .measure) (p .boards)) x (p .taken .0 + 1)) g ∙ own-same (kitOf p) (p .limit + 4) a (h .able .room) (p .taken .0 + 1) (omega arith)
+          (omega arith) w (own-wide 31 (p .measure) (p .boards) (p .taken .0 + 1) w (sym n));
+    })
+
 -- nothing charged
 pub charged-none : (p : Place) → p ≡ charged p 0
 unfolding charged
 charged-none p = rw add-zero
+
+-- the window, copied from the left ladder and composed with the right one
+pub window-copied : (p : Place) (a : List ℕ) {x y : List ℕ} → Fit p (length a) → x ≡ copyAt (kitOf p) a (p .limit + 2) (p .start .0)
+    → y ≡ composeAt (kitOf p) x (p .limit + 2) (p .limit + 2) (p .limit + 1) → y ≡ composeAt (kitOf p) a (p .limit + 2) (p .start .0) (p .limit + 1)
+window-copied p a f e g =
+    let fi = f .inside in
+    let ft = f .top in
+    g ∙ ap (λ (b : List ℕ). composeAt (kitOf p) b (p .limit + 2) (p .limit + 2) (p .limit + 1)) e ∙ compose-copied (kitOf p) (p .limit + 4) a (f .able .room)
+    (p .limit + 2) (omega arith) (omega arith) (p .start .0) (f .start) (omega arith) (p .limit + 1) (omega arith) (λ q. omega arith)
 
 -- ---- the left ladder, as a loop builds it
 

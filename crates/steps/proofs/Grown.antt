@@ -11,8 +11,8 @@ use Rattle.measures.specs.Kit.{Kit}
 use Rattle.place.specs.declared.Place.{Place}
 use Rattle.place.specs.Places.{pickTaken, startMoved, turned, charged, tested}
 use Rattle.steps.specs.Walk.{State, state, kitOf, more, far, onLeft, onRight, written, rebuilt, joined, extendedBy, extended, entered, windowed, judged, tried, raisedBy, raised, again}
-use Rattle.steps.specs.Fit.{Fit, Entry, Does}
-use Rattle.steps.proofs.Fit.{able-kept, entry-fit}
+use Rattle.steps.specs.Fit.{Lends, Fit, Entry, Does}
+use Rattle.steps.proofs.Fit.{able-kept, lends-kept, entry-fit}
 use Rattle.model.proofs.Bits.{val-le}
 
 -- the start rises by k; at most c compositions and t tests are charged
@@ -279,3 +279,22 @@ raise-tries p a {q} {b} f h c t d l =
     let gc = g .comps in
     let gt = g .tests in
     (subst (λ (n : ℕ). Fit q n) (sym l) (fit-grown g (omega arith) (omega arith) (omega arith) f), (omega arith, omega arith))
+
+-- ---- what is lent keeps its length, and a place its measure and its boards
+
+grown-lends : {p q : Place} {k c t v n : ℕ} → Grown p q k c t → v ≡ n → Lends p n → Lends q v
+grown-lends {p} {q} g e h = lends-kept p q (g .boards) (g .measure) e h
+
+pub entered-lends : (p : Place) (a : List ℕ) (k : ℕ) (w : List ℕ) {q : Place} {b : List ℕ} {v n : ℕ} → Entry p k (length a) → Does (entered (kitOf p) k w) p a q b → v ≡ n → Lends p n → Lends q v
+unfolding startMoved pickTaken
+entered-lends p a k w {q} {b} {v} e d l h =
+    subst (λ (x : Place). Lends x v) (sym (d .0)) (grown-lends (entered-grown (kitOf p) k w (state p a) (e .top)) l h)
+
+pub tried-lends : (p : Place) (a : List ℕ) {q : Place} {b : List ℕ} {v n : ℕ} → Does (tried (kitOf p)) p a q b → v ≡ n → Lends p n → Lends q v
+tried-lends p a {q} {b} {v} d l h = subst (λ (x : Place). Lends x v) (sym (d .0)) (grown-lends (tried-grown (kitOf p) (state p a)) l h)
+
+pub raised-lends : (p : Place) (a : List ℕ) {q : Place} {b : List ℕ} {v n : ℕ} → Fit p (length a) → Does (raised (kitOf p)) p a q b → v ≡ n → Lends p n → Lends q v
+raised-lends p a {q} {b} {v} f d l h = subst (λ (x : Place). Lends x v) (sym (d .0)) (grown-lends (raised-grown (kitOf p) (state p a) (f .top)) l h)
+
+pub again-lends : (p : Place) (a : List ℕ) {q : Place} {b : List ℕ} {v n : ℕ} → Fit p (length a) → Does (again (kitOf p)) p a q b → v ≡ n → Lends p n → Lends q v
+again-lends p a {q} {b} {v} f d l h = subst (λ (x : Place). Lends x v) (sym (d .0)) (grown-lends (again-grown (kitOf p) (state p a) (f .top)) l h)

@@ -5,3 +5,6 @@ pub mod Rises
 pub mod Closes
 pub mod Frames
 pub mod Ready
+pub mod Alike
+pub mod Ladders
+pub mod Bare

@@ -2,7 +2,7 @@
 -- and 4100 tests at most, so 4096 picks from small counts stay below what `Takes` allows. Assumes nothing.
 use Prim.Native.Nat.{ℕ, _+_, _*_, _≤_, _<_, max}
 use native.Mathlib.Omega.{arith}
-use mathlib.Core.Path.{_≡_, refl, sym, ap, subst}
+use mathlib.Core.Path.{_≡_, refl, sym, ap}
 use mathlib.Core.Logic.{⊎-elim}
 use mathlib.Core.Bool.{Bool, true, false}
 use mathlib.Core.List.{List}
@@ -14,7 +14,7 @@ use Rattle.measures.specs.Kit.{either, widthOf}
 use Rattle.place.specs.declared.Place.{Place}
 use Rattle.place.specs.Places.{Sound, pickTaken, startMoved}
 use Rattle.steps.specs.Walk.{state, kitOf, entered, tried, cleared, minStep, climbed, ended, maxStep, stepped}
-use Rattle.steps.specs.Fit.{Takes, Ready, Does}
+use Rattle.steps.specs.Fit.{Takes, Ready}
 use Rattle.steps.proofs.Fit.{able-kept}
 use Rattle.model.proofs.Bits.{val-le}
 use Rattle.steps.proofs.Grown.{Grown, grown-on, entered-grown, entered-near, tried-grown, tried-bound}
@@ -194,9 +194,3 @@ ready-on s r =
       none-failed = λ z. absurd (omega arith);
       none-passed = λ z. absurd (omega arith);
     }
-
--- after a call of `step`, which keeps the length of the area
-pub step-leaves : {p q : Place} (a w : List ℕ) {b : List ℕ} → Ready p (length a) → p .taken .0 < p .limit → Does (stepped (kitOf p) w) p a q b → length b ≡ length a → Ready q (length b) × Stepped p q
-step-leaves {p} {q} a w {b} r h d l =
-    let s : Stepped p q = subst (λ (x : Place). Stepped p x) (sym (d .0)) (stepped-grown p a w r h) in
-    (subst (λ (n : ℕ). Ready q n) (sym l) (ready-on s r), s)

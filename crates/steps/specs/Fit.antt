@@ -3,10 +3,12 @@ use Prim.Native.Nat.{ℕ, _+_, _*_, _≤_}
 use mathlib.Core.Path.{_≡_}
 use mathlib.Core.Bool.{false}
 use mathlib.Core.List.{List}
+use lib.ListN.{length}
 use Rattle.model.specs.Journey.{val}
 use Rattle.measures.specs.Kit.{widthOf}
+use Rattle.area.specs.Parts.{part}
 use Rattle.place.specs.declared.Place.{Place}
-use Rattle.steps.specs.Walk.{State, state}
+use Rattle.steps.specs.Walk.{State, state, kitOf}
 
 -- an area of `words` words has the parts of the place
 pub record Able (p : Place) (words : ℕ) : Type 0 where
@@ -18,6 +20,15 @@ pub record Able (p : Place) (words : ℕ) : Type 0 where
 pub record In (p : Place) (i : ℕ) : Type 0 where
   pub low : 1 ≤ i
   pub high : i ≤ p .limit + 4
+
+-- k words, lent for the copy that a composition reads, are those of a part
+abbrev pub Lends : Place → ℕ → Type 0
+Lends p k = widthOf (p .measure) (p .boards) ≡ k
+
+-- the part of the last pick is the own table of its words w
+pub record Owns (p : Place) (a w : List ℕ) : Type 0 where
+  pub shape : p .boards ≡ length w
+  pub own : part (widthOf (p .measure) (p .boards)) a (p .taken .0) ≡ kitOf p .own (p .taken .0) w
 
 -- the window s to m is one of picks taken, and the counts are far from what a word holds
 pub record Fit (p : Place) (words : ℕ) : Type 0 where

@@ -1,22 +1,29 @@
 // The steps of the walk, on a place and the words of its area. m is the picks taken, s the start of the window, b the boundary: the left ladder
 // stands in parts s to b, the right ladder, over picks b + 1 to m, in part limit + 1, the window in part limit + 2, the footprint in limit + 3.
+// `right` has the words of a part and is lent from above: compositions of measures 3 and 4 copy the later table into it. What it holds is free before and
+// after.
 ghost use mathlib.Core.Path.{_≡_};
+ghost use mathlib.Core.Bool.{true, not, _&&_};
 ghost use Prim.Native.Nat.{_+_, _-_, _≤_, _<_};
 ghost use lib.ListN.{length};
+ghost use lib.Dec.{eqb};
 ghost use Rattle.model.specs.Journey.{val};
+ghost use Rattle.measures.specs.Kit.{either};
 ghost use Rattle.area.specs.Parts.{composeAt, copyAt, zeroAt};
-ghost use Rattle.steps.specs.Walk.{state, kitOf, ladder, rebuilt, joined, extended, entered, windowed, judged, tried, minStep, raised, again, climbed, ended, maxStep, stepped};
-ghost use Rattle.steps.specs.Fit.{Able, In, Fit, Entry, Takes, Does};
+ghost use Rattle.steps.specs.Walk.{state, kitOf, ladder, rebuilt, joined, extended, entered, windowed, judged, tried, raised, again, climbed};
+ghost use Rattle.steps.specs.Alike.{finished};
+ghost use Rattle.steps.specs.Bare.{bareTried, spared, stepBy};
+ghost use Rattle.steps.specs.Fit.{Able, In, Lends, Owns, Fit, Entry, Takes, Does};
 use model::Pick;
 use place::Place;
 
 // ---- parts, with the measure and the boards of the place
 
-fn compose_at(p: Place, area: &mut [u32], d: usize, l: usize, r: usize)
-    requires { ⌜ Able p (length (now area)) × (In p d × (In p l × In p r)) ⌝ }
-    ensures { λ _. ⌜ now (area .exit) ≡ composeAt (kitOf p) (now (area .entry)) d l r ⌝ }
+fn compose_at(p: Place, area: &mut [u32], right: &mut [u32], d: usize, r: usize)
+    requires { ⌜ Able p (length (now area)) × Lends p (length (now right)) × In p d × In p r ⌝ }
+    ensures { λ _. ⌜ now (area .exit) ≡ composeAt (kitOf p) (now (area .entry)) d d r ⌝ }
 {
-    area::compose_parts(area, p.measure, p.boards, d, l, r);
+    area::compose_onto(area, right, p.measure, p.boards, d, r);
 }
 
 fn copy_at(p: Place, area: &mut [u32], d: usize, l: usize)
@@ -45,41 +52,41 @@ fn clear_spare(p: Place, area: &mut [u32])
 // ---- the ladders
 
 // From part m - 1 down to part s, each part becomes its composition with the part after it, so that part i holds the window i to m.
-fn build_left(p: Place, area: &mut [u32], s: usize, m: usize)
-    requires { ⌜ Able p (length (now area)) × ((1 ≤ s) × ((s ≤ m) × (m ≤ p .limit))) ⌝ }
+fn build_left(p: Place, area: &mut [u32], right: &mut [u32], s: usize, m: usize)
+    requires { ⌜ Able p (length (now area)) × Lends p (length (now right)) × (1 ≤ s) × (s ≤ m) × (m ≤ p .limit) ⌝ }
     ensures { λ _. ⌜ now (area .exit) ≡ ladder (kitOf p) (now (area .entry)) m (m - s) ⌝ }
 {
     let mut i = m;
     while s < i {
         i -= 1;
-        compose_at(p, area, i, i, i + 1);
+        compose_at(p, area, right, i, i + 1);
     }
 }
 
 // b becomes m: the left ladder is built over s to m, one composition for each part but the last, and the right ladder is empty.
-fn rebuild(p: Place, area: &mut [u32]) -> Place
-    requires { ⌜ Fit p (length (now area)) ⌝ }
+fn rebuild(p: Place, area: &mut [u32], right: &mut [u32]) -> Place
+    requires { ⌜ Fit p (length (now area)) × Lends p (length (now right)) ⌝ }
     ensures { λ r. ⌜ Does (rebuilt (kitOf p)) p (now (area .entry)) r (now (area .exit)) ⌝ }
 {
     let m = p.taken;
     let s = p.start;
     let limit = p.limit;
-    build_left(p, area, s.0, m.0);
+    build_left(p, area, right, s.0, m.0);
     zero_at(p, area, limit + 1);
     let q = p.turned();
     q.charged(m.0 - s.0)
 }
 
 // Pick m joins the right ladder: a composition, unless that was empty and m is all it holds.
-fn join(p: Place, area: &mut [u32]) -> Place
-    requires { ⌜ Fit p (length (now area)) ⌝ }
+fn join(p: Place, area: &mut [u32], words: &[u32], right: &mut [u32]) -> Place
+    requires { ⌜ Fit p (length (now area)) × Lends p (length (now right)) × Owns p (now area) (now words) ⌝ }
     ensures { λ r. ⌜ Does (joined (kitOf p)) p (now (area .entry)) r (now (area .exit)) ⌝ }
 {
     let m = p.taken;
     let b = p.boundary;
     let limit = p.limit;
     if b.0 + 1 < m.0 {
-        compose_at(p, area, limit + 1, limit + 1, m.0);
+        area::compose_own(area, words, right, p.measure, p.boards, limit + 1, m.0);
         return p.charged(1);
     }
     copy_at(p, area, limit + 1, m.0);
@@ -87,21 +94,21 @@ fn join(p: Place, area: &mut [u32]) -> Place
 }
 
 // The ladders take in pick m. A start beyond b + 1 has left the left ladder behind, and part of the right one: only then is a new one built.
-fn extend(p: Place, area: &mut [u32]) -> Place
-    requires { ⌜ Fit p (length (now area)) ⌝ }
+fn extend(p: Place, area: &mut [u32], words: &[u32], right: &mut [u32]) -> Place
+    requires { ⌜ Fit p (length (now area)) × Lends p (length (now right)) × Owns p (now area) (now words) ⌝ }
     ensures { λ r. ⌜ Does (extended (kitOf p)) p (now (area .entry)) r (now (area .exit)) ⌝ }
 {
     let s = p.start;
     let b = p.boundary;
     if b.0 + 1 < s.0 {
-        return rebuild(p, area);
+        return rebuild(p, area, right);
     }
-    join(p, area)
+    join(p, area, words, right)
 }
 
 // A new pick: its own table goes to its part, the start moves by k, and the ladders take it in.
-fn enter(p: Place, area: &mut [u32], words: &[u32], k: usize) -> Place
-    requires { ⌜ Entry p k (length (now area)) × ((k ≤ 1) × (p .boards ≡ length (now words))) ⌝ }
+fn enter(p: Place, area: &mut [u32], words: &[u32], right: &mut [u32], k: usize) -> Place
+    requires { ⌜ Entry p k (length (now area)) × Lends p (length (now right)) × (k ≤ 1) × (p .boards ≡ length (now words)) ⌝ }
     ensures { λ r. ⌜ Does (entered (kitOf p) k (now (words .entry))) p (now (area .entry)) r (now (area .exit)) ⌝ }
 {
     let m = p.taken;
@@ -109,14 +116,14 @@ fn enter(p: Place, area: &mut [u32], words: &[u32], k: usize) -> Place
     area::own_part(area, words, p.measure, p.boards, next);
     let q = p.pick_taken();
     let r = q.start_moved(k);
-    extend(r, area)
+    extend(r, area, words, right)
 }
 
 // ---- a test
 
 // The window s to m goes to part limit + 2: a composition where it lies on both ladders, else a copy from the one it lies on.
-fn window(p: Place, area: &mut [u32]) -> Place
-    requires { ⌜ Fit p (length (now area)) ⌝ }
+fn window(p: Place, area: &mut [u32], right: &mut [u32]) -> Place
+    requires { ⌜ Fit p (length (now area)) × Lends p (length (now right)) ⌝ }
     ensures { λ r. ⌜ Does (windowed (kitOf p)) p (now (area .entry)) r (now (area .exit)) ⌝ }
 {
     let m = p.taken;
@@ -127,11 +134,11 @@ fn window(p: Place, area: &mut [u32]) -> Place
         copy_at(p, area, limit + 2, limit + 1);
         return p;
     }
+    copy_at(p, area, limit + 2, s.0);
     if m.0 <= b.0 {
-        copy_at(p, area, limit + 2, s.0);
         return p;
     }
-    compose_at(p, area, limit + 2, s.0, limit + 1);
+    compose_at(p, area, right, limit + 2, limit + 1);
     p.charged(1)
 }
 
@@ -146,63 +153,68 @@ fn judge(p: Place, area: &[u32]) -> Place
 }
 
 // One test of the window s to m.
-fn try_window(p: Place, area: &mut [u32]) -> Place
-    requires { ⌜ Fit p (length (now area)) × ((p .compositions .0 ≤ 99000000) × (p .tests .0 ≤ 99000000)) ⌝ }
+fn try_window(p: Place, area: &mut [u32], right: &mut [u32]) -> Place
+    requires { ⌜ Fit p (length (now area)) × Lends p (length (now right)) × (p .compositions .0 ≤ 99000000) × (p .tests .0 ≤ 99000000) ⌝ }
     ensures { λ r. ⌜ Does (tried (kitOf p)) p (now (area .entry)) r (now (area .exit)) ⌝ }
 {
-    let q = window(p, area);
+    let q = window(p, area, right);
     judge(q, area)
 }
 
-// 1 where x holds: what the start moves by.
-fn one_if(x: bool) -> usize
-    ensures { λ r. ⌜ r ≡ val x ⌝ }
+// The same where nobody looks at the area afterwards: a window that lies on one ladder is judged where it is, one of both ladders is composed only under
+// measure 4, and judged without being written under the others.
+fn judge_ladders(p: Place, area: &mut [u32], right: &mut [u32]) -> Place
+    requires { ⌜ Fit p (length (now area)) × Lends p (length (now right)) × (p .compositions .0 ≤ 99000000) × (p .tests .0 ≤ 99000000) × (spared p ≡ true) ⌝ }
+    ensures { λ r. ⌜ Does (bareTried (kitOf p)) p (now (area .entry)) r (now (area .exit)) ⌝ }
 {
-    if x { 1 } else { 0 }
+    let m = p.taken;
+    let s = p.start;
+    let b = p.boundary;
+    let limit = p.limit;
+    if b.0 < s.0 {
+        let passed = area::passes_part(area, p.measure, p.boards, limit + 3, limit + 1);
+        return p.tested(passed);
+    }
+    if m.0 <= b.0 {
+        let passed = area::passes_part(area, p.measure, p.boards, limit + 3, s.0);
+        return p.tested(passed);
+    }
+    if p.measure == 4 {
+        return try_window(p, area, right);
+    }
+    let passed = area::joined_passes(area, p.measure, p.boards, limit + 3, s.0, limit + 1);
+    let q = p.charged(1);
+    q.tested(passed)
 }
 
-// ---- measures 2, 3 and 4: minimisation
-
-// One pick: the start moves on after a test that passed, and one test follows.
-fn min_step(p: Place, area: &mut [u32], words: &[u32]) -> Place
-    requires { ⌜ Entry p (val (p .passed)) (length (now area)) × (p .boards ≡ length (now words)) ⌝ }
-    ensures { λ r. ⌜ Does (minStep (kitOf p) (now (words .entry))) p (now (area .entry)) r (now (area .exit)) ⌝ }
-{
-    let k = one_if(p.passed);
-    let q = enter(p, area, words, k);
-    let r = try_window(q, area);
-    clear_spare(p, area);
-    r
-}
-
-// ---- measure 1: maximisation
+// ---- measure 1: the start rises while tests fail
 
 // After a failure the start rises by one; where it then exceeds b + 1, the left ladder is built.
-fn raise(p: Place, area: &mut [u32]) -> Place
-    requires { ⌜ Fit p (length (now area)) × (p .start .0 < p .taken .0) ⌝ }
+fn raise(p: Place, area: &mut [u32], right: &mut [u32]) -> Place
+    requires { ⌜ Fit p (length (now area)) × Lends p (length (now right)) × (p .start .0 < p .taken .0) ⌝ }
     ensures { λ r. ⌜ Does (raised (kitOf p)) p (now (area .entry)) r (now (area .exit)) ⌝ }
 {
     let s = p.start;
     let b = p.boundary;
     let q = p.start_moved(1);
     if b.0 + 1 < s.0 + 1 {
-        return rebuild(q, area);
+        return rebuild(q, area, right);
     }
     q
 }
 
 // A rise, and the test repeated.
-fn again(p: Place, area: &mut [u32]) -> Place
-    requires { ⌜ Fit p (length (now area)) × ((p .start .0 < p .taken .0) × ((p .compositions .0 ≤ 98000000) × (p .tests .0 ≤ 98000000))) ⌝ }
+fn again(p: Place, area: &mut [u32], right: &mut [u32]) -> Place
+    requires { ⌜ Fit p (length (now area)) × Lends p (length (now right)) × (p .start .0 < p .taken .0) × (p .compositions .0 ≤ 98000000) × (p .tests .0 ≤ 98000000) ⌝ }
     ensures { λ r. ⌜ Does (again (kitOf p)) p (now (area .entry)) r (now (area .exit)) ⌝ }
 {
-    let q = raise(p, area);
-    try_window(q, area)
+    let q = raise(p, area, right);
+    try_window(q, area, right)
 }
 
 // Until a test passes or the window s = m has failed: k = m - s rises are left.
-fn climb(p: Place, area: &mut [u32]) -> Place
-    requires { ⌜ Fit p (length (now area)) × ((p .compositions .0 ≤ 95000000) × (p .tests .0 ≤ 95000000)) ⌝ }
+fn climb(p: Place, area: &mut [u32], right: &mut [u32]) -> Place
+    requires { ⌜ Fit p (length (now area)) × Lends p (length (now right)) × (p .compositions .0 ≤ 95000000) × (p .tests .0 ≤ 95000000) ⌝ }
     ensures { λ r. ⌜ Does (climbed (kitOf p)) p (now (area .entry)) r (now (area .exit)) ⌝ }
 {
     let m = p.taken;
@@ -213,16 +225,19 @@ fn climb(p: Place, area: &mut [u32]) -> Place
         if q.passed {
             return q;
         }
-        q = again(q, area);
+        q = again(q, area, right);
         k -= 1;
     }
     q
 }
 
-// None for good: some pick is taken and the last test not passed.
-fn is_ended(p: Place) -> bool
-    ensures { λ r. ⌜ r ≡ ended p ⌝ }
+// Under measure 1, none for good: some pick is taken and the last test not passed.
+pub fn is_finished(p: Place) -> bool
+    ensures { λ r. ⌜ r ≡ finished p ⌝ }
 {
+    if p.measure != 1 {
+        return false;
+    }
     let m = p.taken;
     if 0 < m.0 {
         return !p.passed;
@@ -230,30 +245,63 @@ fn is_ended(p: Place) -> bool
     false
 }
 
-// One pick: the start moves on once a test has failed, and rises while tests fail; after the end only m does.
-fn max_step(p: Place, area: &mut [u32], words: &[u32]) -> Place
-    requires { ⌜ Entry p (val (p .failed)) (length (now area)) × (p .boards ≡ length (now words)) ⌝ }
-    ensures { λ r. ⌜ Does (maxStep (kitOf p) (now (words .entry))) p (now (area .entry)) r (now (area .exit)) ⌝ }
-{
-    if is_ended(p) {
-        return p.pick_taken();
-    }
-    let k = one_if(p.failed);
-    let q = enter(p, area, words, k);
-    let t = try_window(q, area);
-    let r = climb(t, area);
-    clear_spare(p, area);
-    r
-}
-
 // ---- a pick taken
 
-pub fn step(p: Place, area: &mut [u32], words: &[u32]) -> Place
-    requires { ⌜ Takes p (length (now area)) (length (now words)) ⌝ }
-    ensures { λ r. ⌜ Does (stepped (kitOf p) (now (words .entry))) p (now (area .entry)) r (now (area .exit)) ⌝ }
+// What the start moves by at a new pick: one, under measure 1 once a test has failed, under the others after a test that passed.
+fn moved_by(p: Place) -> usize
+    ensures { λ r. ⌜ r ≡ val (either (eqb (p .measure) 1) (p .failed) (p .passed)) ⌝ }
 {
     if p.measure == 1 {
-        return max_step(p, area, words);
+        return one_if(p.failed);
     }
-    min_step(p, area, words)
+    one_if(p.passed)
+}
+
+fn one_if(x: bool) -> usize
+    ensures { λ r. ⌜ r ≡ val x ⌝ }
+{
+    if x { 1 } else { 0 }
+}
+
+// Whether the step ends with the test: the area is not kept, and the measure makes one test a pick.
+fn is_spared(p: Place, kept: bool) -> bool
+    ensures { λ r. ⌜ r ≡ (not kept && spared p) ⌝ }
+{
+    if kept {
+        return false;
+    }
+    if p.measure == 2 {
+        return true;
+    }
+    if p.measure == 3 {
+        return true;
+    }
+    if p.measure == 4 {
+        return true;
+    }
+    false
+}
+
+// The start moves on and one test follows; under measure 1 the start rises while tests fail, and after the end only m does. Where
+// the area is not kept, under measures 2 to 4, neither the window's part nor part limit + 4 is written for its own sake.
+pub fn step(p: Place, area: &mut [u32], words: &[u32], right: &mut [u32], kept: bool) -> Place
+    requires { ⌜ Takes p (length (now area)) (length (now words)) × Lends p (length (now right)) ⌝ }
+    ensures { λ r. ⌜ Does (stepBy kept (kitOf p) (now (words .entry))) p (now (area .entry)) r (now (area .exit)) ⌝ }
+{
+    if is_finished(p) {
+        return p.pick_taken();
+    }
+    let k = moved_by(p);
+    let q = enter(p, area, words, right, k);
+    if is_spared(p, kept) {
+        return judge_ladders(q, area, right);
+    }
+    let t = try_window(q, area, right);
+    if p.measure == 1 {
+        let r = climb(t, area, right);
+        clear_spare(p, area);
+        return r;
+    }
+    clear_spare(p, area);
+    t
 }

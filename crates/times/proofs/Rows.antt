@@ -48,16 +48,18 @@ unfolding rows
 rowed-start {n} {f} {t₀} e = record { size = e; low = zero-le; long = sym e; made = rw zero-mul }
 
 module _ {n : ℕ} {f : ℕ → ℕ → ℕ} {t₀ t : List ℕ} {u : ℕ} (m : Rowed n f t₀ t u) where
+  -- what the loop has not reached is as it was
+  pub rowed-read : drop (u * n) t ≡ drop (u * n) t₀
+  rowed-read = rw (m .made) (drop-at (rows n f u) _ (u * n) (length-rows n f u))
+
   -- a turn: row u, lent and written
   pub rowed-turn : {row : List ℕ} → u < n → row ≡ tab (f u) n
       → Rowed n f t₀ (take (u * n) t ++ (row ++ drop (u * n + n - u * n) (drop (u * n) t))) (u + 1)
   unfolding rows
   rowed-turn {row} h q =
-      let l = length-rows n f u in
-      let front : take (u * n) t ≡ rows n f u = rw (m .made) (take-at (rows n f u) _ (u * n) l) in
-      let back : drop (u * n) t ≡ drop (u * n) t₀ = rw (m .made) (drop-at (rows n f u) _ (u * n) l) in
+      let front : take (u * n) t ≡ rows n f u = rw (m .made) (take-at (rows n f u) _ (u * n) (length-rows n f u)) in
       let made : take (u * n) t ++ (row ++ drop (u * n + n - u * n) (drop (u * n) t)) ≡ rows n f (suc u) ++ drop (suc u * n) t₀ =
-      rw (add-sub-cancel-left, front, back, q, drop-drop, suc-mul) (sym (append-assoc (rows n f u) (tab (f u) n) _)) in
+      rw (add-sub-cancel-left, front, rowed-read, q, drop-drop, suc-mul) (sym (append-assoc (rows n f u) (tab (f u) n) _)) in
       record {
         size = m .size;
         low = omega arith;
@@ -83,12 +85,11 @@ halves n f g a b xs e p q =
     let r : length (drop m xs) ≤ m = omega (arith, length-drop m xs) in
     rw (sub-zero, add-sub-cancel-left, p, q, take-at (rows n f n) _ m l, drop-at (rows n f n) _ m l, drop-of-length-le (drop m xs) {i = m} r, append-nil)
 
--- ---- one row
+-- the second half, as it is lent when the first was written
+pub half-left : (m : ℕ) (a xs : List ℕ) → m + m ≡ length xs → m ≡ length a → take (m + m - m) (drop m (a ++ drop (m - 0) xs)) ≡ drop m xs
+half-left m a xs e l = rw (sub-zero, add-sub-cancel-left, drop-at a _ m (sym l)) (take-all m (drop m xs) (omega (arith, length-drop m xs)))
 
--- a row that a loop leaves as it is
-pub row-same : (f : ℕ → ℕ) (n : ℕ) (xs : List ℕ) → n ≡ length xs → ((v : ℕ) → getD xs v 0 ≡ f v) → xs ≡ tab f n
-row-same f n xs e h =
-    ext-getD 0 xs (tab f n) (sym e ∙ sym (length-tab f n)) (λ v l. h v ∙ sym (getD-tab f n v (omega (arith, e))))
+-- ---- one row
 
 -- a word of a row whose own entry was set to 0
 row-word : (f : ℕ → ℕ) (n u v : ℕ) (b : Bool) → eqb u v ≡ b → u < n → v < n → getD (set (tab f n) u 0) v 0 ≡ choose b 0 (f v)

@@ -1,50 +1,53 @@
 // Tables of times between n boards, 2 to 32: n * n words of earliest arrivals, then n * n words of latest departures; 0 is none.
-// A table is written half by half and row by row, each row lent as a part, so that a loop over a row needs no division, and no branch but
-// selects that the compiler turns into vector code. Their composition is in `folds`.
+// A table is written row by row, so that a loop over a row needs no division, and no branch but selects that the compiler turns into vector
+// code. Their composition is in `folds`.
 ghost use mathlib.Core.Path.{_≡_};
 ghost use Prim.Native.Nat.{_+_, _*_, _^_, _≤_, _<_};
-ghost use mathlib.Core.List.{_++_};
-ghost use lib.ListN.{length, take};
+ghost use lib.Bits.{bitAnd};
+ghost use lib.Dec.{eqb};
+ghost use lib.ListN.{length};
 ghost use Rattle.lists.specs.Tab.{tab};
-ghost use Rattle.times.specs.Times.{rows, ownTime, ownTimes, allInTime};
+ghost use Rattle.times.specs.Times.{choose, ownTimes, allInTime};
+ghost use Rattle.times.specs.Own.{boardBit, ownWord, Twice, OwnRow};
 ghost use Rattle.times.specs.Pairs.{noLater, pairInTime, belowInTime};
-use lists::keep;
 use model::Board;
 use model::Pick;
 
 // ---- own table
 
-// Row u of one half of a pick's own table.
-fn own_row(out: &mut [u32], joined: &[u32], n: usize, from: Board, pick: Pick)
-    requires { ⌜ (n ≤ 32) × ((from .0 < n) × ((pick .0 < 2 ^ 32) × ((n ≡ length (now out)) × (n ≤ length (now joined))))) ⌝ }
-    ensures { λ _. ⌜ now (out .exit) ≡ tab (ownTime (pick .0) (now (joined .entry)) (from .0)) n ⌝ }
+// The bit of each board.
+fn board_bits() -> [u32; 32]
+    ensures { λ r. ⌜ r ≡ tab boardBit 32 ⌝ }
+{
+    let mut bits = lists::no_words();
+    for v in 0..32usize {
+        bits[v] = 1u32 << v;
+    }
+    bits
+}
+
+// The pick where the word has the bit, else none: a select.
+fn own_time(word: u32, bit: u32, pick: u32) -> u32
+    ensures { λ r. ⌜ r ≡ choose (eqb (bitAnd word bit) 0) 0 pick ⌝ }
+{
+    if word & bit == 0 { 0 } else { pick }
+}
+
+// Row u of a pick's own table, in both halves: their words are the same.
+fn own_row(out: &mut [u32], bits: &[u32], joined: &[u32], n: usize, from: Board, pick: Pick)
+    requires { ⌜ OwnRow n (pick .0) (now joined) (now bits) (from .0) (now out) ⌝ }
+    ensures { λ _. ⌜ Twice (n * n) (ownWord n (pick .0) (now (joined .entry))) (now (out .exit)) (from .0 * n + n) ⌝ }
 {
     let u = from.0;
     let word = joined[u];
     let p = pick.0 as u32;
+    let at = u * n;
+    let m = n * n;
     for v in 0..n {
-        out[v] = keep(p, (word >> v) % 2);
-    }
-}
-
-fn own_half(half: &mut [u32], joined: &[u32], n: usize, pick: Pick)
-    requires { ⌜ (n ≤ 32) × ((pick .0 < 2 ^ 32) × ((n * n ≡ length (now half)) × (n ≤ length (now joined)))) ⌝ }
-    ensures { λ _. ⌜ now (half .exit) ≡ rows n (ownTime (pick .0) (now (joined .entry))) n ⌝ }
-{
-    let p = pick.0;
-    for u in 0..n {
-        let at = u * n;
-        own_row(&mut half[at..at + n], joined, n, Board(u), Pick(p));
-    }
-}
-
-// Copies the first m words over those behind them.
-fn copy_half(out: &mut [u32], m: usize)
-    requires { ⌜ m + m ≡ length (now out) ⌝ }
-    ensures { λ _. ⌜ now (out .exit) ≡ take m (now (out .entry)) ++ take m (now (out .entry)) ⌝ }
-{
-    for i in 0..m {
-        out[m + i] = out[i];
+        let x = own_time(word, bits[v], p);
+        let i = at + v;
+        out[i] = x;
+        out[m + i] = x;
     }
 }
 
@@ -53,9 +56,11 @@ pub fn own(out: &mut [u32], joined: &[u32], n: usize, pick: Pick)
     requires { ⌜ (n ≤ 32) × ((pick .0 < 2 ^ 32) × ((n * n + n * n ≡ length (now out)) × (n ≤ length (now joined)))) ⌝ }
     ensures { λ _. ⌜ now (out .exit) ≡ ownTimes n (pick .0) (now (joined .entry)) ⌝ }
 {
-    let m = n * n;
-    own_half(&mut out[0..m], joined, n, pick);
-    copy_half(out, m);
+    let p = pick.0;
+    let bits = board_bits();
+    for u in 0..n {
+        own_row(out, &bits[0..n], joined, n, Board(u), Pick(p));
+    }
 }
 
 // ---- test

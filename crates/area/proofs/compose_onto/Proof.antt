@@ -1,39 +1,17 @@
--- `area::compose_onto` meets its contract: the part that is lent is composed with the copy.
+-- `area::compose_onto` meets its contract, measure by measure.
 -- Assumes nothing.
-use native.Mathlib.Omega.{arith}
-use native.Mathlib.Nat.{add-sub-cancel-left}
-use Rattle.area.specs.Parts.{part, putPart}
-use Rattle.area.proofs.Lent.{fits}
+use mathlib.Core.Path.{sym, _∙_}
+use Rattle.measures.proofs.Words.{width-times, width-links}
+use Rattle.area.proofs.Lent.{has-at, onto-times, onto-reach, onto-links}
 use borrow.Author.Needs.{needs}
 use Rattle.area.proofs.compose_onto.Statement.{statement}
 use Rattle.area.proofs.compose_onto.Tie as tie
 
-take-part-requires : tie.Need-take-part-requires
-take-part-requires c κs = search needs
-
-sub-at : tie.Need-sub-at
-sub-at c = search needs
-
-mul-at : tie.Need-mul-at
-mul-at c = omega (arith, fits (c .before .before .before .before .before .before .before .pre .1 .1 .0))
-
-add-compose-over : tie.Need-add-compose-over
-add-compose-over c = omega (arith, fits (c .before .before .before .before .before .before .before .pre .1 .1 .0))
-
-mul-compose-over : tie.Need-mul-compose-over
-mul-compose-over c = omega (arith, fits (c .before .before .before .before .before .before .before .pre .1 .1 .0))
-
-sub-compose-over : tie.Need-sub-compose-over
-sub-compose-over c = search needs
-
-part-compose-over-start : tie.Need-part-compose-over-start
-part-compose-over-start c = search needs
-
-part-compose-over-end : tie.Need-part-compose-over-end
-part-compose-over-end c = omega (arith, fits (c .before .before .before .before .before .before .before .pre .1 .1 .0))
-
-compose-over-requires : tie.Need-compose-over-requires
-compose-over-requires c κs = search needs
+compose-times-requires : tie.Need-compose-times-requires
+compose-times-requires c κs =
+    let h = c .before .before .before .before .before .pre in
+    let q = sym (width-times (c .before .before .before .before .before .args .measure) (c .before .before .before .before .before .args .n) (c .before .before .if1 .taken)) in
+    (h .0, q ∙ h .1, has-at q (h .2), has-at q (h .3))
 
 same-length : tie.Need-same-length
 same-length c = search needs
@@ -42,22 +20,47 @@ same-length-2 : tie.Need-same-length-2
 same-length-2 c = search needs
 
 returns : tie.Need-returns
-unfolding putPart part
-returns c = simp (add-sub-cancel-left, c .before .before .compose-over .ensures, c .before .before .before .before .before .before .before .take-part .ensures)
+returns c = c .before .before .before .before .compose-times .ensures ∙ onto-times _ _ _ _ _ (c .before .before .before .before .before .before .before .if1 .taken)
+
+compose-links-requires : tie.Need-compose-links-requires
+compose-links-requires c κs =
+    let h = c .before .before .before .before .before .before .pre in
+    let q = sym (width-links (c .before .before .before .before .before .before .args .measure) (c .before .before .before .before .before .before .args .n) (c .before .before .before .if1 .left)) in
+    (h .0, q ∙ h .1, has-at q (h .2), has-at q (h .3))
+
+same-length-3 : tie.Need-same-length-3
+same-length-3 c = search needs
+
+same-length-4 : tie.Need-same-length-4
+same-length-4 c = search needs
+
+returns-2 : tie.Need-returns-2
+returns-2 c = c .before .before .before .before .compose-links .ensures ∙ onto-reach _ _ _ _ _ (c .before .before .before .before .before .before .before .if2 .taken)
+
+compose-words-requires : tie.Need-compose-words-requires
+compose-words-requires c κs =
+    let h = c .before .before .before .before .before .pre in
+    let q = sym (width-links (c .before .before .before .before .before .args .measure) (c .before .before .before .before .before .args .n) (c .before .before .if1 .left)) in
+    (h .0, c .before .before .if1 .left, c .before .if2 .left, has-at q (h .2), has-at q (h .3))
+
+same-length-5 : tie.Need-same-length-5
+same-length-5 c = search needs
+
+returns-3 : tie.Need-returns-3
+returns-3 c = c .before .before .compose-words .ensures ∙ onto-links _ _ _ _ _ (c .before .before .before .before .before .if1 .left)
 
 pub compose-onto-spec : {M : Type 1} → statement M
 compose-onto-spec =
     tie.close
     (tie.spec
-    take-part-requires
-    sub-at
-    mul-at
-    add-compose-over
-    mul-compose-over
-    sub-compose-over
-    part-compose-over-start
-    part-compose-over-end
-    compose-over-requires
+    compose-times-requires
     same-length
     same-length-2
-    returns)
+    returns
+    compose-links-requires
+    same-length-3
+    same-length-4
+    returns-2
+    compose-words-requires
+    same-length-5
+    returns-3)

@@ -1,66 +1,75 @@
--- `area::compose_times` meets its contract: no table is longer than 2048 words.
+-- `area::compose_times` meets its contract: the part that is lent is composed with the copy.
 -- Assumes nothing.
 use native.Mathlib.Omega.{arith}
-use Rattle.area.proofs.Lent.{width-most}
+use native.Mathlib.Nat.{add-sub-cancel-left}
+use Rattle.area.specs.Parts.{part, putPart}
+use Rattle.area.proofs.Lent.{fits}
 use borrow.Author.Needs.{needs}
 use Rattle.area.proofs.compose_times.Statement.{statement}
 use Rattle.area.proofs.compose_times.Tie as tie
 
-width-requires : tie.Need-width-requires
-width-requires c κs = search needs
+mul-e : tie.Need-mul-e
+mul-e c = search needs
 
-no-times-requires : tie.Need-no-times-requires
-no-times-requires c κs = search needs
+mul-e-2 : tie.Need-mul-e-2
+mul-e-2 c = search needs
 
-no-times-requires-2 : tie.Need-no-times-requires-2
-no-times-requires-2 c κs = search needs
+add-e : tie.Need-add-e
+add-e c = search needs
 
-sub-compose-by : tie.Need-sub-compose-by
-sub-compose-by c = search needs
+take-part-requires : tie.Need-take-part-requires
+take-part-requires c κs = search needs
 
-part-left-start : tie.Need-part-left-start
-part-left-start c = search needs
+sub-at : tie.Need-sub-at
+sub-at c = search needs
 
-part-left-end : tie.Need-part-left-end
-part-left-end c =
-    let c5 = c .before .before .before .before .before in
-    let q = c .before .before .before .width .ensures in
-    omega (arith, width-most (c5 .args .measure) _ (c5 .pre .0))
+mul-at : tie.Need-mul-at
+mul-at c = omega (arith, fits (c .before .before .before .before .before .before .before .pre .2))
 
-sub-compose-by-2 : tie.Need-sub-compose-by-2
-sub-compose-by-2 c = search needs
+add-compose-over : tie.Need-add-compose-over
+add-compose-over c = omega (arith, fits (c .before .before .before .before .before .before .before .pre .2))
 
-part-right-start : tie.Need-part-right-start
-part-right-start c = search needs
+mul-compose-over : tie.Need-mul-compose-over
+mul-compose-over c = omega (arith, fits (c .before .before .before .before .before .before .before .pre .2))
 
-part-right-end : tie.Need-part-right-end
-part-right-end c =
-    let c6 = c .before .before .before .before .before .before in
-    let q = c .before .before .before .before .width .ensures in
-    omega (arith, width-most (c6 .args .measure) _ (c6 .pre .0))
+sub-compose-over : tie.Need-sub-compose-over
+sub-compose-over c = search needs
 
-compose-by-requires : tie.Need-compose-by-requires
-compose-by-requires c κs = search needs
+part-compose-over-start : tie.Need-part-compose-over-start
+part-compose-over-start c = search needs
+
+part-compose-over-end : tie.Need-part-compose-over-end
+part-compose-over-end c = omega (arith, fits (c .before .before .before .before .before .before .before .pre .2))
+
+compose-over-requires : tie.Need-compose-over-requires
+compose-over-requires c κs = search needs
 
 same-length : tie.Need-same-length
 same-length c = search needs
 
+same-length-2 : tie.Need-same-length-2
+same-length-2 c = search needs
+
 returns : tie.Need-returns
-returns c = search needs
+unfolding putPart part
+returns c = simp (add-sub-cancel-left, c .before .before .compose-over .ensures, c .before .before .before .before .before .before .before .take-part .ensures)
 
 pub compose-times-spec : {M : Type 1} → statement M
 compose-times-spec =
     tie.close
     (tie.spec
-    width-requires
-    no-times-requires
-    no-times-requires-2
-    sub-compose-by
-    part-left-start
-    part-left-end
-    sub-compose-by-2
-    part-right-start
-    part-right-end
-    compose-by-requires
+    mul-e
+    mul-e-2
+    add-e
+    take-part-requires
+    sub-at
+    mul-at
+    add-compose-over
+    mul-compose-over
+    sub-compose-over
+    part-compose-over-start
+    part-compose-over-end
+    compose-over-requires
     same-length
+    same-length-2
     returns)

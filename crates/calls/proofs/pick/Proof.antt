@@ -19,8 +19,8 @@ pick-verdict-requires c κs = search needs
 enum-told : tie.Need-enum-told
 enum-told c = search needs
 
-step-requires : tie.Need-step-requires
-step-requires c κs = let t = pick-sound _ _ _ (sym (c .before .before .before .pick-verdict .ensures) ∙ ap verdictSays (c .before .enum-told .given .1)) in sound-takes (t .sound) (t .room) (t .below) (sym (t .shape))
+take-pick-requires : tie.Need-take-pick-requires
+take-pick-requires c κs = let t = pick-sound _ _ _ (sym (c .before .before .before .pick-verdict .ensures) ∙ ap verdictSays (c .before .enum-told .given .1)) in sound-takes (t .sound) (t .room) (t .below) (sym (t .shape))
 
 enum-known-c : tie.Need-enum-known-c
 enum-known-c c = search needs
@@ -33,7 +33,7 @@ returns c =
     let c10 = c .before .before .before .before .before .before .before .before .before .before in
     let e = sym (c .before .before .before .before .before .before .pick-verdict .ensures) ∙ ap verdictSays (c .before .before .before .before .enum-told .given .1) in
     let q = taken-state (c10 .args .p) (c10 .args .area .now) (c10 .args .words .now) e in
-    (simp (e, c .before .before .step .ensures .0, q), c .before .before .step .ensures .1 ∙ sym (ap (λ (x : State). x .area) q))
+    (simp (e, c .before .before .take-pick .ensures .0, q), c .before .before .take-pick .ensures .1 ∙ sym (ap (λ (x : State). x .area) q))
 
 same-length-2 : tie.Need-same-length-2
 same-length-2 c = search needs
@@ -51,7 +51,7 @@ pick-spec =
     (tie.spec
     pick-verdict-requires
     enum-told
-    step-requires
+    take-pick-requires
     enum-known-c
     same-length
     returns

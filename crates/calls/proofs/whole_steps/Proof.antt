@@ -1,31 +1,59 @@
--- `calls::whole_steps` meets its contract. The invariant is `Along`.
+-- `calls::whole_steps` meets its contract. The invariant: the state is that of k steps, and `Along`.
 -- Assumes nothing.
-use mathlib.Core.Path.{_≡_}
+use mathlib.Core.Path.{_≡_, refl, sym, _∙_}
 use Prim.Native.Nat.{_-_}
 use native.Mathlib.Omega.{arith}
+use lib.ListN.{length}
 use Rattle.checks.proofs.Lent.{lent-end, lent-part}
-use Rattle.calls.proofs.Loops.{Along, along-start, along-takes, along-turn, along-end}
+use Rattle.steps.specs.Walk.{state, kitOf}
+use Rattle.steps.proofs.Fit.{lends-kept}
+use Rattle.calls.specs.Calls.{bareSteps}
+use Rattle.calls.proofs.Loops.{Along, along-start, along-takes, along-bare, along-finished, bare-none, bare-next, along-end}
 use borrow.Author.Needs.{needs}
 use Rattle.calls.proofs.whole_steps.Statement.{statement}
 use Rattle.calls.proofs.whole_steps.Tie as tie
 
 abbrev Inv-loop : tie.InvT-loop
-Inv-loop area₀ words m n q₀ k₀ area q k = (n ≡ q₀ .boards) × Along q₀ words area₀ m k q area
+Inv-loop area₀ words m right₀ n q₀ k₀ area right q k = (n ≡ q₀ .boards) × Along q₀ words area₀ m k q area × (state q area ≡ bareSteps (kitOf q₀) (q₀ .boards) words k (state q₀ area₀)) × (length right ≡ length right₀)
 
 abbrev μ-loop : tie.MeasureT-loop
-μ-loop area₀ words m n q₀ k₀ area q k = m - k
+μ-loop area₀ words m right₀ n q₀ k₀ area right q k = m - k
 
 loop-holds : tie.Need-loop-holds Inv-loop μ-loop
-loop-holds c = (search needs, along-start _ _ _ _ (c .before .before .pre))
+loop-holds c = (search needs, along-start _ _ _ _ (c .before .before .before .pre .0), bare-none _ _ _ _, refl)
+
+is-finished-requires : tie.Need-is-finished-requires Inv-loop μ-loop
+is-finished-requires c κs = search needs
+
+sub-picks-taken : tie.Need-sub-picks-taken Inv-loop μ-loop
+sub-picks-taken c = search needs
+
+picks-taken-requires : tie.Need-picks-taken-requires Inv-loop μ-loop
+picks-taken-requires c κs =
+    let s = c .before .before .before .before .before .before .before in
+    let a = c .before .before .before .loop .inv .1 in
+    let t = a .taken in
+    let z = s .pre .0 .ready .able .cap in
+    let l = s .pre .0 .limit in
+    (omega (arith, c .before .before .loop-test .taken), omega (arith, c .before .before .loop-test .taken))
+
+same-length : tie.Need-same-length Inv-loop μ-loop
+same-length c = c .before .before .before .before .loop .inv .1 .size
+
+same-length-2 : tie.Need-same-length-2 Inv-loop μ-loop
+same-length-2 c = c .before .before .before .before .loop .inv .3
+
+returns : tie.Need-returns Inv-loop μ-loop
+returns c = let v = c .before .before .before .before .loop .inv in along-finished (v .1) (v .2) (omega (arith, c .before .before .before .loop-test .taken)) (sym (c .before .before .is-finished .ensures) ∙ c .before .if1 .taken) (c .picks-taken .ensures)
 
 mul-at : tie.Need-mul-at Inv-loop μ-loop
-mul-at c = let w = c .before .before .before .before .pre .words in omega (arith, lent-end (c .before .before .before .before .args .p .boards) (c .loop-test .taken))
+mul-at c = let w = c .before .before .before .before .before .before .before .pre .0 .words in omega (arith, lent-end (c .before .before .before .before .before .before .before .args .p .boards) (c .before .before .loop-test .taken))
 
 add-step : tie.Need-add-step Inv-loop μ-loop
-add-step c = let w = c .before .before .before .before .before .pre .words in omega (arith, lent-end (c .before .before .before .before .before .args .p .boards) (c .before .loop-test .taken))
+add-step c = let w = c .before .before .before .before .before .before .before .before .pre .0 .words in omega (arith, lent-end (c .before .before .before .before .before .before .before .before .args .p .boards) (c .before .before .before .loop-test .taken))
 
 mul-step : tie.Need-mul-step Inv-loop μ-loop
-mul-step c = let w = c .before .before .before .before .before .pre .words in omega (arith, lent-end (c .before .before .before .before .before .args .p .boards) (c .before .loop-test .taken))
+mul-step c = let w = c .before .before .before .before .before .before .before .before .pre .0 .words in omega (arith, lent-end (c .before .before .before .before .before .before .before .before .args .p .boards) (c .before .before .before .loop-test .taken))
 
 sub-step : tie.Need-sub-step Inv-loop μ-loop
 sub-step c = search needs
@@ -34,13 +62,15 @@ part-step-start : tie.Need-part-step-start Inv-loop μ-loop
 part-step-start c = search needs
 
 part-step-end : tie.Need-part-step-end Inv-loop μ-loop
-part-step-end c = let w = c .before .before .before .before .before .pre .words in omega (arith, lent-end (c .before .before .before .before .before .args .p .boards) (c .before .loop-test .taken))
+part-step-end c = let w = c .before .before .before .before .before .before .before .before .pre .0 .words in omega (arith, lent-end (c .before .before .before .before .before .before .before .before .args .p .boards) (c .before .before .before .loop-test .taken))
 
 step-requires : tie.Need-step-requires Inv-loop μ-loop
 step-requires c κs =
-    let c3 = c .before .before .before in
-    let c6 = c3 .before .before .before in
-    rw (lent-part (c6 .args .p .boards) (c3 .loop .k) (c6 .args .words .now)) (along-takes (c3 .loop .inv .1) (c .before .before .loop-test .taken))
+    let s = c .before .before .before .before .before .before .before .before .before .before in
+    let v = c .before .before .before .before .before .before .loop .inv in (
+      rw (lent-part (s .args .p .boards) (c .before .before .before .before .before .before .loop .k) (s .args .words .now)) (along-takes (v .1) (c .before .before .before .before .before .loop-test .taken)),
+      lends-kept (s .args .p) (c .before .before .before .before .before .before .loop .q) (v .1 .boards) (v .1 .measure) (v .3) (s .pre .1),
+    )
 
 add-k : tie.Need-add-k Inv-loop μ-loop
 add-k c = search needs
@@ -50,18 +80,23 @@ loop-less c = search needs
 
 loop-again : tie.Need-loop-again Inv-loop μ-loop
 loop-again c =
-    let c6 = c .before .before .before .before .before .before in
-    let c9 = c6 .before .before .before in (
+    let s = c .before .before .before .before .before .before .before .before .before .before .before .before .before .before .before in
+    let v = c .before .before .before .before .before .before .before .before .before .before .before .loop .inv in
+    let e = rw (lent-part (s .args .p .boards) (c .before .before .before .before .before .before .before .before .before .before .before .loop .k) (s .args .words .now)) at (c .before .before .before .before .step .ensures) in (
       search needs,
-      along-turn (c6 .loop .inv .1) (c .before .before .before .before .before .loop-test .taken) (rw (lent-part (c9 .args .p .boards) (c6 .loop .k)
-          (c9 .args .words .now)) at (c .before .before .step .ensures)),
+      along-bare (v .1) (c .before .before .before .before .before .before .before .before .before .before .loop-test .taken) e,
+      bare-next (v .1) (v .2) e,
+      c .before .before .before .before .step .kept .1 .1 .1 .0 ∙ v .3,
     )
 
-same-length : tie.Need-same-length Inv-loop μ-loop
-same-length c = c .before .loop .inv .1 .size
+same-length-3 : tie.Need-same-length-3 Inv-loop μ-loop
+same-length-3 c = c .before .loop .inv .1 .size
 
-returns : tie.Need-returns Inv-loop μ-loop
-returns c = along-end (c .before .loop .inv .1) (c .loop-test .left)
+same-length-4 : tie.Need-same-length-4 Inv-loop μ-loop
+same-length-4 c = c .before .loop .inv .3
+
+returns-2 : tie.Need-returns-2 Inv-loop μ-loop
+returns-2 c = along-end (c .before .loop .inv .1) (c .before .loop .inv .2) (c .loop-test .left)
 
 pub whole-steps-spec : {M : Type 1} → statement M
 whole-steps-spec =
@@ -70,6 +105,12 @@ whole-steps-spec =
     Inv-loop
     μ-loop
     loop-holds
+    is-finished-requires
+    sub-picks-taken
+    picks-taken-requires
+    same-length
+    same-length-2
+    returns
     mul-at
     add-step
     mul-step
@@ -80,5 +121,6 @@ whole-steps-spec =
     add-k
     loop-less
     loop-again
-    same-length
-    returns)
+    same-length-3
+    same-length-4
+    returns-2)

@@ -9,8 +9,8 @@ use lib.Dec.{eqb}
 use Rattle.lists.specs.Tab.{every}
 use Rattle.lists.proofs.Tab.{every-none}
 use Rattle.links.specs.Tables.{without}
+use Rattle.links.proofs.Gather.{gather}
 use Rattle.checks.specs.Checks.{allowed, cleanRow, clean}
-use Rattle.checks.proofs.Masks.{gather}
 use Rattle.checks.proofs.AllOpen.{clean-word}
 use borrow.Author.Needs.{needs}
 use Rattle.checks.proofs.is_clean.Statement.{statement}

@@ -8,8 +8,9 @@ use lib.Dec.{eqb}
 use lib.ListN.{getD}
 use Rattle.lists.specs.Tab.{every}
 use Rattle.lists.proofs.Tab.{every-none}
+use Rattle.links.proofs.Gather.{gather}
 use Rattle.checks.specs.Checks.{listedRow, listed}
-use Rattle.checks.proofs.Masks.{gather, listed-word}
+use Rattle.checks.proofs.Masks.{listed-word}
 use borrow.Author.Needs.{needs}
 use Rattle.checks.proofs.is_listed.Statement.{statement}
 use Rattle.checks.proofs.is_listed.Tie as tie

@@ -17,12 +17,15 @@ write-requires c κs = search needs
 fold-rows-requires : tie.Need-fold-rows-requires
 fold-rows-requires c κs =
     let c4 = c .before .before .before .before in
-    let c12 = c4 .before .before .before .before .before .before .before .before in
+    let c7 = c4 .before .before .before in
+    let c12 = c7 .before .before .before .before .before in
     let p = c12 .pre in
-    (p .0, (search needs, (p .1 .1 .1 .1 .1, (p .1 .1 .1 .0, small-sets (c12 .args .n) (cell (c12 .args .n) (c12 .args .earlier .now)) (c12 .args .later .now) _ (c4 .write .ensures ∙ simp (c4 .before .before .some-rows .ensures))))))
+    let n = c12 .args .n in
+    let small = small-sets n (cell n (c12 .args .half .now)) (c12 .args .later .now) _ (c4 .write .ensures ∙ simp (c7 .some-rows .ensures)) in
+    (p .0, (search needs, (p .1 .1 .1 .1, (p .1 .1 .0, small))))
 
-cross-rows-requires : tie.Need-cross-rows-requires
-cross-rows-requires c κs = search needs
+fold-over-requires : tie.Need-fold-over-requires
+fold-over-requires c κs = search needs
 
 same-length : tie.Need-same-length
 same-length c = search needs
@@ -37,8 +40,11 @@ returns : tie.Need-returns
 returns c =
     let c7 = c .before .before .before .before .before .before .before in
     let c12 = c7 .before .before .before .before .before in
-    let c20 = c12 .before .before .before .before .before .before .before .before in
-    c .before .before .cross-rows .ensures ∙ crossed-rows false (c20 .args .n) (c20 .args .earlier .now) (c20 .args .later .now) _ _ (c12 .write .ensures ∙ simp (c12 .before .before .some-rows .ensures)) (c7 .fold-rows .ensures)
+    let c15 = c12 .before .before .before in
+    let c20 = c15 .before .before .before .before .before in
+    c .before .before .fold-over .ensures
+    ∙ crossed-rows false (c20 .args .n) (c20 .args .half .now) (c20 .args .later .now) _ _
+    (c12 .write .ensures ∙ simp (c15 .some-rows .ensures)) (c7 .fold-rows .ensures)
 
 pub arrive-spec : {M : Type 1} → statement M
 arrive-spec =
@@ -47,7 +53,7 @@ arrive-spec =
     some-rows-requires
     write-requires
     fold-rows-requires
-    cross-rows-requires
+    fold-over-requires
     same-length
     same-length-2
     same-length-3

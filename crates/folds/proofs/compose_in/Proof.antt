@@ -1,10 +1,11 @@
 -- `folds::compose_in` meets its contract. What the two callees ensure of the halves, put together by `halves`.
 -- Assumes nothing.
-use mathlib.Core.Path.{_∙_}
+use mathlib.Core.Path.{sym, ap, _∙_}
 use Prim.Native.Nat.{_*_}
-use lib.ListN.{drop}
+use lib.ListN.{length, drop}
 use Rattle.times.specs.Times.{arrival, departure, arrivals, departures, composeTimes}
-use Rattle.times.proofs.Rows.{from-start, halves}
+use Rattle.times.proofs.Cells.{length-rows}
+use Rattle.times.proofs.Rows.{from-start, halves, half-left}
 use Rattle.folds.proofs.Gathered.{crossed-arrivals}
 use borrow.Author.Needs.{needs}
 use Rattle.folds.proofs.compose_in.Statement.{statement}
@@ -52,18 +53,6 @@ part-depart-start-2 c = search needs
 part-depart-end-2 : tie.Need-part-depart-end-2
 part-depart-end-2 c = search needs
 
-mul-depart-3 : tie.Need-mul-depart-3
-mul-depart-3 c = search needs
-
-sub-depart-3 : tie.Need-sub-depart-3
-sub-depart-3 c = search needs
-
-part-depart-start-3 : tie.Need-part-depart-start-3
-part-depart-start-3 c = search needs
-
-part-depart-end-3 : tie.Need-part-depart-end-3
-part-depart-end-3 c = search needs
-
 depart-requires : tie.Need-depart-requires
 depart-requires c κs = search needs
 
@@ -79,15 +68,16 @@ same-length-3 c = search needs
 returns : tie.Need-returns
 unfolding arrivals departures composeTimes
 returns c =
-    let c18 = c .before .before .before .before .before .before .before .before .before .before .before .before .before .before .before .before .before .before in
-    let c27 = c18 .before .before .before .before .before .before .before .before .before in
-    let n = c27 .args .n in
-    let s = c27 .args .left .now in
-    let t = c27 .args .right .now in
-    let d = drop (n * n) s in
-    let e = drop (n * n) t in
-    halves n (arrival n s t) (departure n d e) (c18 .arrive .last .0) (c .before .before .before .before .before .before .depart .last .0) (c27 .args .out .now) (c27 .pre .1 .0)
-    (c18 .arrive .ensures ∙ crossed-arrivals n s t) (c .before .before .before .before .before .before .depart .ensures ∙ simp from-start)
+    let c6 = c .before .before .before .before .before .before in
+    let c17 = c6 .before .before .before .before .before .before .before .before .before .before .before in
+    let c25 = c17 .before .before .before .before .before .before .before .before in
+    let n = c25 .args .n in
+    let s = c25 .args .t .now in
+    let t = c25 .args .right .now in
+    let first = c17 .arrive .ensures ∙ crossed-arrivals n s t in
+    let left = half-left (n * n) (c17 .arrive .last .0) s (c25 .pre .1 .0) (sym (ap length first ∙ length-rows n (arrival n s t) n)) in
+    halves n (arrival n s t) (departure n (drop (n * n) s) (drop (n * n) t)) (c17 .arrive .last .0) (c6 .depart .last .0) s (c25 .pre .1 .0)
+    first (c6 .depart .ensures ∙ simp (from-start, left))
 
 pub compose-in-spec : {M : Type 1} → statement M
 compose-in-spec =
@@ -107,10 +97,6 @@ compose-in-spec =
     sub-depart-2
     part-depart-start-2
     part-depart-end-2
-    mul-depart-3
-    sub-depart-3
-    part-depart-start-3
-    part-depart-end-3
     depart-requires
     same-length
     same-length-2

@@ -1,5 +1,6 @@
 -- `folds::cross_row` meets its contract. A row with its fold, then the own entry (`row-last`).
 -- Assumes nothing.
+use mathlib.Core.Bool.{true}
 use mathlib.Core.Path.{refl}
 use Rattle.times.proofs.Rows.{row-last}
 use Rattle.folds.specs.Folds.{each, better}
@@ -7,8 +8,8 @@ use borrow.Author.Needs.{needs}
 use Rattle.folds.proofs.cross_row.Statement.{statement}
 use Rattle.folds.proofs.cross_row.Tie as tie
 
-both-requires : tie.Need-both-requires
-both-requires c κs = search needs
+both-later-requires : tie.Need-both-later-requires
+both-later-requires c κs = search needs
 
 mul-out : tie.Need-mul-out
 mul-out c = search needs
@@ -20,9 +21,10 @@ same-length : tie.Need-same-length
 same-length c = search needs
 
 returns : tie.Need-returns
+unfolding better
 returns c =
     let c7 = c .before .before .before .before .before .before .before in
-    row-last (each (better (c7 .args .late)) (c7 .args .row .now) (c7 .args .joined .now)) _ _ _ _ (c .before .before .both .ensures) (c7 .pre .0) (λ v. refl)
+    row-last (each (better true) (c7 .args .row .now) (c7 .args .joined .now)) _ _ _ _ (c .before .before .both-later .ensures) (c7 .pre .0) (λ v. refl)
 
 pub cross-row-spec : {M : Type 1} → statement M
-cross-row-spec = tie.close (tie.spec both-requires mul-out slice-write-out same-length returns)
+cross-row-spec = tie.close (tie.spec both-later-requires mul-out slice-write-out same-length returns)

@@ -1,6 +1,7 @@
 -- `folds::cross_rows` meets its contract. The invariant is `Rowed`.
 -- Assumes nothing.
 use mathlib.Core.Path.{_∙_}
+use mathlib.Core.Bool.{true}
 use Prim.Native.Nat.{_-_, _*_}
 use native.Mathlib.Omega.{arith}
 use Rattle.times.specs.Times.{cell}
@@ -12,10 +13,10 @@ use Rattle.folds.proofs.cross_rows.Statement.{statement}
 use Rattle.folds.proofs.cross_rows.Tie as tie
 
 abbrev Inv-loop : tie.InvT-loop
-Inv-loop out₀ earlier folds n late u₀ out u = Rowed n (λ i. joinedRow late (cell n earlier i) (cell n folds i) i) out₀ out u
+Inv-loop out₀ half folds n u₀ out u = Rowed n (λ i. joinedRow true (cell n half i) (cell n folds i) i) out₀ out u
 
 abbrev μ-loop : tie.MeasureT-loop
-μ-loop out₀ earlier folds n late u₀ out u = n - u
+μ-loop out₀ half folds n u₀ out u = n - u
 
 loop-holds : tie.Need-loop-holds Inv-loop μ-loop
 loop-holds c = rowed-start (c .before .before .before .pre .1 .0)
@@ -70,11 +71,18 @@ part-cross-row-end-3 c = omega (arith, row-le _ (c .before .before .loop-test .t
 
 cross-row-requires : tie.Need-cross-row-requires Inv-loop μ-loop
 cross-row-requires c κs =
-    let c8 = c .before .before .before .before .before .before .before .before in
-    let at = c .before .before .before .before .loop .u * c8 .args .n in
-    let h = c .before .before .before .loop-test .taken in
-    let r = row-le (c8 .args .n) h in
-    (h, (part-length _ at (c .before .before .before .before .loop .out) (omega (arith, c .before .before .before .before .loop .inv .long)), (part-length _ at (c8 .args .earlier .now) (omega (arith, c8 .pre)), part-length _ at (c8 .args .folds .now) (omega (arith, c8 .pre)))))
+    let c3 = c .before .before .before in
+    let c4 = c3 .before in
+    let c8 = c4 .before .before .before .before in
+    let at = c4 .loop .u * c8 .args .n in
+    let h = c3 .loop-test .taken in
+    let r = row-le (c8 .args .n) h in (
+      h,
+      (
+        part-length _ at (c4 .loop .out) (omega (arith, c4 .loop .inv .long)),
+        (part-length _ at (c8 .args .half .now) (omega (arith, c8 .pre)), part-length _ at (c8 .args .folds .now) (omega (arith, c8 .pre))),
+      ),
+    )
 
 add-u : tie.Need-add-u Inv-loop μ-loop
 add-u c = search needs
@@ -84,10 +92,11 @@ loop-less c = search needs
 
 loop-again : tie.Need-loop-again Inv-loop μ-loop
 loop-again c =
-    let c7 = c .before .before .before .before .before .before .before in
+    let c6 = c .before .before .before .before .before .before in
+    let c7 = c6 .before in
     let c11 = c7 .before .before .before .before in
-    rowed-turn (c7 .loop .inv) (c .before .before .before .before .before .before .loop-test .taken)
-    (c .before .before .cross-row .ensures ∙ joined-lent (c11 .args .late) (c11 .args .n) (c7 .loop .u) (c11 .args .earlier .now) (c11 .args .folds .now))
+    rowed-turn (c7 .loop .inv) (c6 .loop-test .taken)
+    (c .before .before .cross-row .ensures ∙ joined-lent true (c11 .args .n) (c7 .loop .u) (c11 .args .half .now) (c11 .args .folds .now))
 
 same-length : tie.Need-same-length Inv-loop μ-loop
 same-length c = search needs

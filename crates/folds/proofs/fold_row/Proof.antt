@@ -18,17 +18,17 @@ same-length c = search needs
 returns : tie.Need-returns
 returns c = let c7 = c .before .before .before .before .before .before .before in fold-empty (c7 .args .late) (c7 .args .n) (c7 .args .later .now) (c .before .before .before .before .if1 .taken) (c .before .before .zero-over .ensures)
 
-first-of-requires : tie.Need-first-of-requires
-first-of-requires c κs = search needs
+board-in-requires : tie.Need-board-in-requires
+board-in-requires c κs = search needs
 
 mul-at : tie.Need-mul-at
-mul-at c = omega (arith, row-le _ (bit-below _ (c .before .before .before .before .pre .1 .0) (c .first-of .ensures .1)))
+mul-at c = omega (arith, row-le _ (bit-below _ (c .before .before .before .before .pre .1 .0) (c .board-in .ensures .1)))
 
 add-copy-over : tie.Need-add-copy-over
-add-copy-over c = omega (arith, row-le _ (bit-below _ (c .before .before .before .before .before .pre .1 .0) (c .before .first-of .ensures .1)))
+add-copy-over c = omega (arith, row-le _ (bit-below _ (c .before .before .before .before .before .pre .1 .0) (c .before .board-in .ensures .1)))
 
 mul-copy-over : tie.Need-mul-copy-over
-mul-copy-over c = omega (arith, row-le _ (bit-below _ (c .before .before .before .before .before .pre .1 .0) (c .before .first-of .ensures .1)))
+mul-copy-over c = omega (arith, row-le _ (bit-below _ (c .before .before .before .before .before .pre .1 .0) (c .before .board-in .ensures .1)))
 
 sub-copy-over : tie.Need-sub-copy-over
 sub-copy-over c = search needs
@@ -37,7 +37,7 @@ part-copy-over-start : tie.Need-part-copy-over-start
 part-copy-over-start c = search needs
 
 part-copy-over-end : tie.Need-part-copy-over-end
-part-copy-over-end c = omega (arith, row-le _ (bit-below _ (c .before .before .before .before .before .pre .1 .0) (c .before .first-of .ensures .1)))
+part-copy-over-end c = omega (arith, row-le _ (bit-below _ (c .before .before .before .before .before .pre .1 .0) (c .before .board-in .ensures .1)))
 
 copy-over-requires : tie.Need-copy-over-requires
 copy-over-requires c κs = search needs
@@ -58,7 +58,7 @@ returns-2 : tie.Need-returns-2
 returns-2 c =
     let c10 = c .before .before .before .before .before .before .before .before .before .before in
     let c14 = c10 .before .before .before .before in
-    fold-first (c14 .args .late) (c14 .args .n) (c14 .args .later .now) (c14 .args .set) (c10 .first-of .result) (c14 .pre .0) (bit-below _ (c14 .pre .1 .0) (c10 .first-of .ensures .1)) (c10 .first-of .ensures .1) (c .before .before .before .cleared .ensures) (c .before .before .before .before .before .before .before .copy-over .ensures)
+    fold-first (c14 .args .late) (c14 .args .n) (c14 .args .later .now) (c14 .args .set) (c10 .board-in .result) (c14 .pre .0) (bit-below _ (c14 .pre .1 .0) (c10 .board-in .ensures .1)) (c10 .board-in .ensures .1) (c .before .before .before .cleared .ensures) (c .before .before .before .before .before .before .before .copy-over .ensures)
     (c .before .before .fold-set .ensures)
 
 pub fold-row-spec : {M : Type 1} → statement M
@@ -68,7 +68,7 @@ fold-row-spec =
     zero-over-requires
     same-length
     returns
-    first-of-requires
+    board-in-requires
     mul-at
     add-copy-over
     mul-copy-over

@@ -17,17 +17,17 @@ abbrev μ-loop : tie.MeasureT-loop
 loop-holds : tie.Need-loop-holds Inv-loop μ-loop
 loop-holds c = folded-start (c .before .before .pre .1 .1 .0) (c .before .before .pre .1 .0)
 
-first-of-requires : tie.Need-first-of-requires Inv-loop μ-loop
-first-of-requires c κs = search needs
+board-in-requires : tie.Need-board-in-requires Inv-loop μ-loop
+board-in-requires c κs = search needs
 
 mul-at : tie.Need-mul-at Inv-loop μ-loop
-mul-at c = omega (arith, row-le _ (folded-below (c .before .before .loop .inv) _ (c .first-of .ensures .1)))
+mul-at c = omega (arith, row-le _ (folded-below (c .before .before .loop .inv) _ (c .board-in .ensures .1)))
 
 add-fold : tie.Need-add-fold Inv-loop μ-loop
-add-fold c = omega (arith, row-le _ (folded-below (c .before .before .before .loop .inv) _ (c .before .first-of .ensures .1)))
+add-fold c = omega (arith, row-le _ (folded-below (c .before .before .before .loop .inv) _ (c .before .board-in .ensures .1)))
 
 mul-fold : tie.Need-mul-fold Inv-loop μ-loop
-mul-fold c = omega (arith, row-le _ (folded-below (c .before .before .before .loop .inv) _ (c .before .first-of .ensures .1)))
+mul-fold c = omega (arith, row-le _ (folded-below (c .before .before .before .loop .inv) _ (c .before .board-in .ensures .1)))
 
 sub-fold : tie.Need-sub-fold Inv-loop μ-loop
 sub-fold c = search needs
@@ -36,10 +36,10 @@ part-fold-start : tie.Need-part-fold-start Inv-loop μ-loop
 part-fold-start c = search needs
 
 part-fold-end : tie.Need-part-fold-end Inv-loop μ-loop
-part-fold-end c = omega (arith, row-le _ (folded-below (c .before .before .before .loop .inv) _ (c .before .first-of .ensures .1)))
+part-fold-end c = omega (arith, row-le _ (folded-below (c .before .before .before .loop .inv) _ (c .before .board-in .ensures .1)))
 
 fold-requires : tie.Need-fold-requires Inv-loop μ-loop
-fold-requires c κs = (c .before .before .before .before .loop .inv .size, part-length _ _ _ (omega (arith, row-le _ (folded-below (c .before .before .before .before .loop .inv) _ (c .before .before .first-of .ensures .1)))))
+fold-requires c κs = (c .before .before .before .before .loop .inv .size, part-length _ _ _ (omega (arith, row-le _ (folded-below (c .before .before .before .before .loop .inv) _ (c .before .before .board-in .ensures .1)))))
 
 cleared-requires : tie.Need-cleared-requires Inv-loop μ-loop
 cleared-requires c κs = search needs
@@ -47,12 +47,12 @@ cleared-requires c κs = search needs
 loop-less : tie.Need-loop-less Inv-loop μ-loop
 loop-less c =
     let c8 = c .before .before .before .before .before .before .before .before in
-    rw (c .cleared .ensures) (folded-less (c8 .loop .inv) _ (c8 .before .before .before .pre .0) (c .before .before .before .before .before .before .first-of .ensures .1))
+    rw (c .cleared .ensures) (folded-less (c8 .loop .inv) _ (c8 .before .before .before .pre .0) (c .before .before .before .before .before .before .board-in .ensures .1))
 
 loop-again : tie.Need-loop-again Inv-loop μ-loop
 loop-again c =
     let c8 = c .before .before .before .before .before .before .before .before in
-    folded-next (c8 .loop .inv) _ (c8 .before .before .before .pre .0) (c .before .before .before .before .before .before .first-of .ensures .1) (c .cleared .ensures) (c .before .before .before .fold .ensures)
+    folded-next (c8 .loop .inv) _ (c8 .before .before .before .pre .0) (c .before .before .before .before .before .before .board-in .ensures .1) (c .cleared .ensures) (c .before .before .before .fold .ensures)
 
 same-length : tie.Need-same-length Inv-loop μ-loop
 same-length c = sym (c .before .loop .inv .size) ∙ c .before .before .before .before .pre .1 .1 .0
@@ -67,7 +67,7 @@ fold-set-spec =
     Inv-loop
     μ-loop
     loop-holds
-    first-of-requires
+    board-in-requires
     mul-at
     add-fold
     mul-fold

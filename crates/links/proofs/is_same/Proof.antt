@@ -1,41 +1,37 @@
--- `links::is_same` meets its contract: the loop returns at the first word that differs.
+-- `links::is_same` meets its contract: the bits gathered are none exactly when each word so far is the same (`gather-same`).
 -- Assumes nothing.
-use mathlib.Core.Bool.{true}
-use mathlib.Core.Path.{_≡_, sym}
+use mathlib.Core.Path.{_≡_, refl, sym}
 use Prim.Native.Nat.{_-_, _≤_}
 use native.Mathlib.Omega.{arith}
-use borrow.Author.Tests.{eq-eqb, ne-eqb}
+use lib.Dec.{eqb}
 use Rattle.lists.specs.Tab.{every}
-use Rattle.lists.proofs.Tab.{every-none, every-next, every-stop}
+use Rattle.lists.proofs.Tab.{every-none}
+use Rattle.links.proofs.Gather.{gather-same}
 use Rattle.links.specs.Tables.{rowSame, same}
 use borrow.Author.Needs.{needs}
 use Rattle.links.proofs.is_same.Statement.{statement}
 use Rattle.links.proofs.is_same.Tie as tie
 
 abbrev Inv-loop : tie.InvT-loop
-Inv-loop footprint t n u₀ u = (u ≤ n) × (every (rowSame footprint t) u ≡ true)
+Inv-loop footprint t n bad₀ u₀ bad u = (u ≤ n) × (eqb bad 0 ≡ every (rowSame footprint t) u)
 
 abbrev μ-loop : tie.MeasureT-loop
-μ-loop footprint t n u₀ u = n - u
+μ-loop footprint t n bad₀ u₀ bad u = n - u
 
 loop-holds : tie.Need-loop-holds Inv-loop μ-loop
-loop-holds c = (search needs, every-none _)
+loop-holds c = (search needs, sym (every-none _))
 
-mul-if1 : tie.Need-mul-if1 Inv-loop μ-loop
-mul-if1 c = search needs
+mul-bad : tie.Need-mul-bad Inv-loop μ-loop
+mul-bad c = search needs
 
-shared-slice-read-if1 : tie.Need-shared-slice-read-if1 Inv-loop μ-loop
-shared-slice-read-if1 c = search needs
+shared-slice-read-bad : tie.Need-shared-slice-read-bad Inv-loop μ-loop
+shared-slice-read-bad c = search needs
 
-mul-if1-2 : tie.Need-mul-if1-2 Inv-loop μ-loop
-mul-if1-2 c = search needs
+mul-bad-2 : tie.Need-mul-bad-2 Inv-loop μ-loop
+mul-bad-2 c = search needs
 
-shared-slice-read-if1-2 : tie.Need-shared-slice-read-if1-2 Inv-loop μ-loop
-shared-slice-read-if1-2 c = search needs
-
-returns : tie.Need-returns Inv-loop μ-loop
-unfolding same rowSame
-returns c = sym (every-stop _ _ _ (c .before .before .before .loop-test .taken) (ne-eqb _ _ (c .if1 .taken)))
+shared-slice-read-bad-2 : tie.Need-shared-slice-read-bad-2 Inv-loop μ-loop
+shared-slice-read-bad-2 c = search needs
 
 add-u : tie.Need-add-u Inv-loop μ-loop
 add-u c = search needs
@@ -44,12 +40,11 @@ loop-less : tie.Need-loop-less Inv-loop μ-loop
 loop-less c = search needs
 
 loop-again : tie.Need-loop-again Inv-loop μ-loop
-unfolding rowSame
-loop-again c = (search needs, every-next _ _ (c .before .before .before .before .loop .inv .1) (eq-eqb _ _ (c .if1 .left)))
+loop-again c = (search needs, gather-same _ _ _ (c .before .before .before .loop .bad) _ (c .before .before .before .loop .inv .1) refl)
 
-returns-2 : tie.Need-returns-2 Inv-loop μ-loop
+returns : tie.Need-returns Inv-loop μ-loop
 unfolding same
-returns-2 c = let e : c .before .loop .u ≡ c .before .before .args .n = omega arith in sym (rw e at (c .before .loop .inv .1))
+returns c = let e : c .before .loop .u ≡ c .before .before .args .n = omega arith in rw e at (c .before .loop .inv .1)
 
 pub is-same-spec : {M : Type 1} → statement M
 is-same-spec =
@@ -58,12 +53,11 @@ is-same-spec =
     Inv-loop
     μ-loop
     loop-holds
-    mul-if1
-    shared-slice-read-if1
-    mul-if1-2
-    shared-slice-read-if1-2
-    returns
+    mul-bad
+    shared-slice-read-bad
+    mul-bad-2
+    shared-slice-read-bad-2
     add-u
     loop-less
     loop-again
-    returns-2)
+    returns)

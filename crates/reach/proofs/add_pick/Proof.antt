@@ -1,62 +1,43 @@
--- `reach::add_pick` meets its contract: the table's copy and the pick's own table are composed over the table.
+-- `reach::add_pick` meets its contract: the words of the pick's own table are composed onto the table.
 -- Assumes nothing.
-use mathlib.Core.Path.{ap₂, _∙_}
+use mathlib.Core.Path.{ap, _∙_}
 use Rattle.links.specs.Tables.{compose}
 use Rattle.joins.proofs.Padded.{within-padded}
-use Rattle.reach.proofs.Picks.{load-words}
 use borrow.Author.Needs.{needs}
 use Rattle.reach.proofs.add_pick.Statement.{statement}
 use Rattle.reach.proofs.add_pick.Tie as tie
 
-load-requires : tie.Need-load-requires
-load-requires c κs = search needs
-
 closed-words-requires : tie.Need-closed-words-requires
 closed-words-requires c κs = search needs
 
-sub-join : tie.Need-sub-join
-sub-join c = search needs
+sub-join-over : tie.Need-sub-join-over
+sub-join-over c = search needs
 
-part-join-start : tie.Need-part-join-start
-part-join-start c = search needs
+part-join-over-start : tie.Need-part-join-over-start
+part-join-over-start c = search needs
 
-part-join-end : tie.Need-part-join-end
-part-join-end c = search needs
+part-join-over-end : tie.Need-part-join-over-end
+part-join-over-end c = search needs
 
-sub-join-2 : tie.Need-sub-join-2
-sub-join-2 c = search needs
-
-part-join-start-2 : tie.Need-part-join-start-2
-part-join-start-2 c = search needs
-
-part-join-end-2 : tie.Need-part-join-end-2
-part-join-end-2 c = search needs
-
-join-requires : tie.Need-join-requires
-join-requires c κs = search needs
+join-over-requires : tie.Need-join-over-requires
+join-over-requires c κs = search needs
 
 same-length : tie.Need-same-length
 same-length c = search needs
 
 returns : tie.Need-returns
 returns c =
-    let c13 = c .before .before .before .before .before .before .before .before .before .before .before .before .before in
-    c .before .before .join .ensures ∙ ap₂ (compose (c13 .args .n)) (load-words _ _ _ (c13 .pre .1 .0)
-    (c .before .before .before .before .before .before .before .before .before .load .ensures)) (within-padded _ _ _
-    (c .before .before .before .before .before .before .before .before .closed-words .ensures))
+    let start = c .before .before .before .before .before .before .before .before .before in
+    c .before .before .join-over .ensures ∙ ap (compose (start .args .n) (start .args .out .now)) (within-padded _ _ _ (c .before .before .before .before .before .before .closed-words .ensures))
 
 pub add-pick-spec : {M : Type 1} → statement M
 add-pick-spec =
     tie.close
     (tie.spec
-    load-requires
     closed-words-requires
-    sub-join
-    part-join-start
-    part-join-end
-    sub-join-2
-    part-join-start-2
-    part-join-end-2
-    join-requires
+    sub-join-over
+    part-join-over-start
+    part-join-over-end
+    join-over-requires
     same-length
     returns)

@@ -20,19 +20,19 @@ low-bits-requires c κs = search needs
 loop-holds : tie.Need-loop-holds Inv-loop μ-loop
 loop-holds c = rw (c .low-bits .ensures) (gone-start _ _)
 
-first-of-requires : tie.Need-first-of-requires Inv-loop μ-loop
-first-of-requires c κs = search needs
+board-in-requires : tie.Need-board-in-requires Inv-loop μ-loop
+board-in-requires c κs = search needs
 
 mul-s : tie.Need-mul-s Inv-loop μ-loop
 mul-s c = search needs
 
 shared-slice-read-s : tie.Need-shared-slice-read-s Inv-loop μ-loop
-shared-slice-read-s c = omega (arith, gone-below _ (c .before .before .before .loop .inv) (c .before .first-of .ensures .1))
+shared-slice-read-s c = omega (arith, gone-below _ (c .before .before .before .loop .inv) (c .before .board-in .ensures .1))
 
 returns : tie.Need-returns Inv-loop μ-loop
 returns c =
     let c3 = c .before .before .before in
-    let inv = gone-next _ (c3 .before .before .before .before .pre .0) (c3 .before .loop .inv) (c .before .before .first-of .ensures .1) in
+    let inv = gone-next _ (c3 .before .before .before .before .pre .0) (c3 .before .loop .inv) (c .before .before .board-in .ensures .1) in
     sym (T→≡ _ (seen-all (c3 .before .before .before .before .pre .0) (gone-seen inv) (rw (c3 .before .before .low-bits .ensures) at (c .if1 .taken))))
 
 cleared-requires : tie.Need-cleared-requires Inv-loop μ-loop
@@ -41,12 +41,12 @@ cleared-requires c κs = search needs
 loop-less : tie.Need-loop-less Inv-loop μ-loop
 loop-less c =
     let c5 = c .before .before .before .before .before in
-    rw (c .cleared .ensures) (gone-less _ (c5 .before .before .before .pre .0) (c5 .loop .inv) (c .before .before .before .first-of .ensures .1))
+    rw (c .cleared .ensures) (gone-less _ (c5 .before .before .before .pre .0) (c5 .loop .inv) (c .before .before .before .board-in .ensures .1))
 
 loop-again : tie.Need-loop-again Inv-loop μ-loop
 loop-again c =
     let c5 = c .before .before .before .before .before in
-    rw (c .cleared .ensures) (gone-next _ (c5 .before .before .before .pre .0) (c5 .loop .inv) (c .before .before .before .first-of .ensures .1))
+    rw (c .cleared .ensures) (gone-next _ (c5 .before .before .before .pre .0) (c5 .loop .inv) (c .before .before .before .board-in .ensures .1))
 
 returns-2 : tie.Need-returns-2 Inv-loop μ-loop
 returns-2 c =
@@ -61,7 +61,7 @@ reaches-all-spec =
     μ-loop
     low-bits-requires
     loop-holds
-    first-of-requires
+    board-in-requires
     mul-s
     shared-slice-read-s
     returns

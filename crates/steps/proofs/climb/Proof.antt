@@ -1,30 +1,40 @@
 -- `steps::climb` meets its contract. The loop's invariant: the rises that are left from here make the whole climb.
 -- Assumes nothing.
+use mathlib.Core.Path.{_≡_, refl, _∙_}
+use lib.ListN.{length}
+use Rattle.steps.specs.Fit.{Lends}
+use Rattle.steps.proofs.Grown.{again-lends}
 use Rattle.steps.proofs.Rises.{Climb, climb-start, climb-takes, climb-turn, climb-passed, climb-over}
 use borrow.Author.Needs.{needs}
 use Rattle.steps.proofs.climb.Statement.{statement}
 use Rattle.steps.proofs.climb.Tie as tie
 
 abbrev Inv-loop : tie.InvT-loop
-Inv-loop area₀ k₀ q₀ area k q = Climb q₀ area₀ k₀ q area k
+Inv-loop area₀ right₀ k₀ q₀ area right k q = Climb q₀ area₀ k₀ q area k × Lends q (length right) × (length right ≡ length right₀)
 
 abbrev μ-loop : tie.MeasureT-loop
-μ-loop area₀ k₀ q₀ area k q = k
+μ-loop area₀ right₀ k₀ q₀ area right k q = k
 
 sub-k : tie.Need-sub-k Inv-loop μ-loop
 sub-k c = search needs
 
 loop-holds : tie.Need-loop-holds Inv-loop μ-loop
-loop-holds c = climb-start _ _ (c .before .before .before .before .before .pre .0) (c .before .before .before .before .before .pre .1 .0) (c .before .before .before .before .before .pre .1 .1)
+loop-holds c = let h = c .before .before .before .before .before .before .pre in (climb-start _ _ (h .0) (h .2) (h .3), h .1, refl)
 
 same-length : tie.Need-same-length Inv-loop μ-loop
 same-length c = search needs
 
+same-length-2 : tie.Need-same-length-2 Inv-loop μ-loop
+same-length-2 c = search needs
+
 returns : tie.Need-returns Inv-loop μ-loop
-returns c = climb-passed (c .before .before .loop .inv) (c .if1 .taken)
+returns c = climb-passed (c .before .before .loop .inv .0) (c .if1 .taken)
 
 again-requires : tie.Need-again-requires Inv-loop μ-loop
-again-requires c κs = climb-takes (c .before .before .before .loop .inv) (c .before .before .loop-test .taken)
+again-requires c κs =
+    let v = c .before .before .before .before .loop .inv in
+    let t = climb-takes (v .0) (c .before .before .before .loop-test .taken) in
+    (t .0, v .1, t .1 .0, t .1 .1 .0, t .1 .1 .1)
 
 sub-k-2 : tie.Need-sub-k-2 Inv-loop μ-loop
 sub-k-2 c = search needs
@@ -34,14 +44,22 @@ loop-less c = search needs
 
 loop-again : tie.Need-loop-again Inv-loop μ-loop
 loop-again c =
-    climb-turn (c .before .before .before .before .before .before .loop .inv) (c .before .before .before .before .before .loop-test .taken)
-    (c .before .before .before .before .if1 .left) (c .before .before .again .ensures) (c .before .before .again .kept .1 .0)
+    let v = c .before .before .before .before .before .before .before .before .before .loop .inv in
+    let e = c .before .before .before .before .again .ensures in
+    let k = c .before .before .before .before .again .kept in (
+      climb-turn (v .0) (c .before .before .before .before .before .before .before .before .loop-test .taken) (c .before .before .before .before .before .before .before .if1 .left) e (k .1 .0),
+      again-lends _ _ (climb-takes (v .0) (c .before .before .before .before .before .before .before .before .loop-test .taken) .0) e (k .1 .1 .0) (v .1),
+      k .1 .1 .0 ∙ v .2,
+    )
 
-same-length-2 : tie.Need-same-length-2 Inv-loop μ-loop
-same-length-2 c = search needs
+same-length-3 : tie.Need-same-length-3 Inv-loop μ-loop
+same-length-3 c = search needs
+
+same-length-4 : tie.Need-same-length-4 Inv-loop μ-loop
+same-length-4 c = search needs
 
 returns-2 : tie.Need-returns-2 Inv-loop μ-loop
-returns-2 c = climb-over (c .before .loop .inv) (c .loop-test .left)
+returns-2 c = climb-over (c .before .loop .inv .0) (c .loop-test .left)
 
 pub climb-spec : {M : Type 1} → statement M
 climb-spec =
@@ -52,10 +70,12 @@ climb-spec =
     sub-k
     loop-holds
     same-length
+    same-length-2
     returns
     again-requires
     sub-k-2
     loop-less
     loop-again
-    same-length-2
+    same-length-3
+    same-length-4
     returns-2)

@@ -4,7 +4,7 @@ use mathlib.Core.Path.{refl}
 use borrow.Author.Tests.{lt-ltb, le-ltb}
 use Rattle.place.specs.Places.{startMoved}
 use Rattle.steps.specs.Walk.{raised, raisedBy, rebuilt}
-use Rattle.steps.proofs.Fit.{fit-at, moved-fit, does-at}
+use Rattle.steps.proofs.Fit.{fit-at, moved-fit, moved-lends, does-at}
 use borrow.Author.Needs.{needs}
 use Rattle.steps.proofs.raise.Statement.{statement}
 use Rattle.steps.proofs.raise.Tie as tie
@@ -20,15 +20,19 @@ add-if1-2 c = search needs
 
 rebuild-requires : tie.Need-rebuild-requires
 rebuild-requires c κs =
-    let c8 = c .before .before .before .before .before .before .before .before in
-    fit-at (c .before .before .before .before .start-moved .ensures) refl (moved-fit _ (c8 .pre .0) (c8 .pre .1))
+    let h = c .before .before .before .before .before .before .before .before .before .before .pre in
+    let e = c .before .before .before .before .before .start-moved .ensures in
+    (fit-at e refl (moved-fit _ (h .0) (h .2)), moved-lends _ e (h .1))
 
 same-length : tie.Need-same-length
 same-length c = search needs
 
+same-length-2 : tie.Need-same-length-2
+same-length-2 c = search needs
+
 returns : tie.Need-returns
 unfolding raised raisedBy startMoved
-returns c = simp (lt-ltb _ _ (c .before .before .before .before .if1 .taken)) (does-at rebuilt (c .before .before .before .before .before .before .before .start-moved .ensures) refl (c .before .before .rebuild .ensures))
+returns c = simp (lt-ltb _ _ (c .before .before .before .before .before .before .before .if1 .taken)) (does-at rebuilt (c .before .before .before .before .before .before .before .before .before .before .start-moved .ensures) refl (c .before .before .before .before .rebuild .ensures))
 
 returns-2 : tie.Need-returns-2
 unfolding raised raisedBy startMoved
@@ -43,5 +47,6 @@ raise-spec =
     add-if1-2
     rebuild-requires
     same-length
+    same-length-2
     returns
     returns-2)

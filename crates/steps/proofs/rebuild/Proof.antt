@@ -21,23 +21,23 @@ turned-requires : tie.Need-turned-requires
 turned-requires c κs = search needs
 
 sub-charged : tie.Need-sub-charged
-sub-charged c = search needs
+sub-charged c = omega (arith, c .before .before .before .before .before .before .before .before .before .before .before .before .before .before .before .before .before .before .pre .0 .inside)
 
 charged-requires : tie.Need-charged-requires
 unfolding turned
-charged-requires c κs =
-    let c14 = c .before .before .before .before .before .before .before .before .before .before .before .before .before .before in
-    (rw (c .before .before .turned .ensures) (c14 .pre .comps), omega (arith, c14 .pre .able .cap))
+charged-requires c κs = let f = c .before .before .before .before .before .before .before .before .before .before .before .before .before .before .before .before .before .before .pre .0 in (rw (c .before .before .turned .ensures) (f .comps), omega (arith, f .able .cap, f .top))
 
 same-length : tie.Need-same-length
 same-length c = search needs
+
+same-length-2 : tie.Need-same-length-2
+same-length-2 c = search needs
 
 returns : tie.Need-returns
 unfolding rebuilt
 returns c = (
   simp (c .charged .ensures, c .before .before .before .turned .ensures),
-  c .before .before .before .before .before .before .zero-at .ensures ∙ simp
-      (c .before .before .before .before .before .before .before .before .before .before .build-left .ensures),
+  c .before .before .before .before .before .before .zero-at .ensures ∙ simp (c .before .before .before .before .before .before .before .before .before .before .before .before .build-left .ensures),
 )
 
 pub rebuild-spec : {M : Type 1} → statement M
@@ -51,4 +51,5 @@ rebuild-spec =
     sub-charged
     charged-requires
     same-length
+    same-length-2
     returns)

@@ -14,17 +14,20 @@ window-requires c κs = search needs
 
 judge-requires : tie.Need-judge-requires
 judge-requires c κs =
-    let c3 = c .before .before .before in
-    let h = c .before .before .before .before .before .before .pre in
+    let h = c .before .before .before .before .before .before .before .before .before .before .pre in
     let i = h .0 .inside in
-    fit-at (c3 .window .ensures .0) (c3 .window .kept .1 .0) (fit-grown (windowed-grown _ _) (omega arith) (omega arith) (omega arith) (h .0))
+    fit-at (c .before .before .before .before .before .window .ensures .0) (c .before .before .before .before .before .window .kept .1 .0) (fit-grown (windowed-grown _ _) (omega arith) (omega arith) (omega arith) (h .0))
 
 same-length : tie.Need-same-length
 same-length c = search needs
 
+same-length-2 : tie.Need-same-length-2
+same-length-2 c = search needs
+
 returns : tie.Need-returns
 unfolding tried judged windowed charged
-returns c = let e = c .before .before .before .before .window .ensures in (place-at judged (e .0) (e .1) (c .judge .ensures), e .1)
+returns c = let e = c .before .before .before .before .before .before .window .ensures in (place-at judged (e .0) (e .1) (c .judge .ensures), e .1)
 
 pub try-window-spec : {M : Type 1} → statement M
-try-window-spec = tie.close (tie.spec window-requires judge-requires same-length returns)
+try-window-spec =
+    tie.close (tie.spec window-requires judge-requires same-length same-length-2 returns)

@@ -2,7 +2,7 @@
 -- Assumes nothing.
 use borrow.Author.Tests.{lt-ltb, le-ltb, lt-leb, le-leb}
 use Rattle.steps.specs.Walk.{windowed, windowArea}
-use Rattle.steps.proofs.Fit.{charged-none}
+use Rattle.steps.proofs.Fit.{charged-none, window-copied}
 use borrow.Author.Needs.{needs}
 use Rattle.steps.proofs.window.Statement.{statement}
 use Rattle.steps.proofs.window.Tie as tie
@@ -34,7 +34,7 @@ same-length-2 c = search needs
 
 returns-2 : tie.Need-returns-2
 unfolding windowed windowArea
-returns-2 c = simp (le-leb _ _ (c .before .before .before .before .before .before .before .if1 .left), le-ltb _ _ (c .before .before .before .before .if2 .taken)) (charged-none _, c .before .before .copy-at2 .ensures)
+returns-2 c = simp (le-leb _ _ (c .before .before .before .before .before .before .before .if1 .left), le-ltb _ _ (c .if2 .taken)) (charged-none _, c .before .before .before .before .before .copy-at2 .ensures)
 
 add-compose-at : tie.Need-add-compose-at
 add-compose-at c = search needs
@@ -51,11 +51,14 @@ charged-requires c κs = search needs
 same-length-3 : tie.Need-same-length-3
 same-length-3 c = search needs
 
+same-length-4 : tie.Need-same-length-4
+same-length-4 c = search needs
+
 returns-3 : tie.Need-returns-3
 unfolding windowed windowArea
 returns-3 c =
-    simp (le-leb _ _ (c .before .before .before .before .before .before .before .before .if1 .left), lt-ltb _ _ (c .before .before .before .before .before .if2 .left))
-    (c .charged .ensures, c .before .before .before .compose-at .ensures)
+    simp (le-leb _ _ (c .before .before .before .before .before .before .before .before .before .before .before .before .before .before .before .if1 .left), lt-ltb _ _ (c .before .before .before .before .before .before .before .before .if2 .left))
+    (c .charged .ensures, window-copied _ _ (c .before .before .before .before .before .before .before .before .before .before .before .before .before .before .before .before .before .before .before .before .before .before .before .pre .0) (c .before .before .before .before .before .before .before .before .before .before .before .before .before .copy-at2 .ensures) (c .before .before .before .before .before .compose-at .ensures))
 
 pub window-spec : {M : Type 1} → statement M
 window-spec =
@@ -75,4 +78,5 @@ window-spec =
     compose-at-requires
     charged-requires
     same-length-3
+    same-length-4
     returns-3)

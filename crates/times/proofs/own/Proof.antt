@@ -1,50 +1,85 @@
--- `times::own` meets its contract: the first half is its rows, and the second a copy of it.
+-- `times::own` meets its contract: the rows so far are made in both halves (`Twice`).
 -- Assumes nothing.
-use mathlib.Core.Path.{_∙_}
+use Prim.Native.Nat.{_*_, _-_, _≤_}
+use native.Mathlib.Omega.{arith}
+use native.Mathlib.Nat.{zero-mul, suc-mul, mul-le-mul-right}
+use native.Mathlib.Numerals.{add-one}
+use Rattle.times.specs.Own.{ownWord, Twice}
 use Rattle.times.specs.Times.{ownTime, ownTimes}
-use Rattle.times.proofs.Twice.{first-rows}
+use Rattle.times.proofs.Twice.{twice-start, twice-all, lent-bits}
 use borrow.Author.Needs.{needs}
 use Rattle.times.proofs.own.Statement.{statement}
 use Rattle.times.proofs.own.Tie as tie
 
-mul-m : tie.Need-mul-m
-mul-m c = search needs
+abbrev Inv-loop : tie.InvT-loop
+Inv-loop out₀ joined n p bits u₀ out u = (u ≤ n) × Twice (n * n) (ownWord n p joined) out (u * n)
 
-sub-own-half : tie.Need-sub-own-half
-sub-own-half c = search needs
+abbrev μ-loop : tie.MeasureT-loop
+μ-loop out₀ joined n p bits u₀ out u = n - u
 
-part-own-half-start : tie.Need-part-own-half-start
-part-own-half-start c = search needs
+board-bits-requires : tie.Need-board-bits-requires Inv-loop μ-loop
+board-bits-requires c κs = search needs
 
-part-own-half-end : tie.Need-part-own-half-end
-part-own-half-end c = search needs
+loop-holds : tie.Need-loop-holds Inv-loop μ-loop
+loop-holds c = (search needs, rw zero-mul (twice-start (c .before .before .before .pre .1 .1 .0)))
 
-own-half-requires : tie.Need-own-half-requires
-own-half-requires c κs = search needs
+sub-own-row : tie.Need-sub-own-row Inv-loop μ-loop
+sub-own-row c = search needs
 
-copy-half-requires : tie.Need-copy-half-requires
-copy-half-requires c κs = search needs
+part-own-row-start : tie.Need-part-own-row-start Inv-loop μ-loop
+part-own-row-start c = search needs
 
-same-length : tie.Need-same-length
-same-length c = search needs
+part-own-row-end : tie.Need-part-own-row-end Inv-loop μ-loop
+part-own-row-end c = search needs
 
-returns : tie.Need-returns
-unfolding ownTimes
+own-row-requires : tie.Need-own-row-requires Inv-loop μ-loop
+own-row-requires c κs =
+    let c3 = c .before .before .before in
+    let c4 = c3 .before in
+    let c5 = c4 .before in
+    let c8 = c5 .before .before .before in
+    let p = c8 .pre in
+    record {
+      few = p .0;
+      below = c3 .loop-test .taken;
+      small = p .1 .0;
+      words = p .1 .1 .1;
+      table = lent-bits _ _ (p .0) (c5 .board-bits .ensures);
+      made = c4 .loop .inv .1;
+    }
+
+add-u : tie.Need-add-u Inv-loop μ-loop
+add-u c = search needs
+
+loop-less : tie.Need-loop-less Inv-loop μ-loop
+loop-less c = search needs
+
+loop-again : tie.Need-loop-again Inv-loop μ-loop
+loop-again c = (omega arith, rw (add-one, suc-mul) (c .before .before .own-row .ensures))
+
+same-length : tie.Need-same-length Inv-loop μ-loop
+same-length c = omega (arith, c .before .loop .inv .1 .long, c .before .before .before .before .before .pre .1 .1 .0)
+
+returns : tie.Need-returns Inv-loop μ-loop
+unfolding ownTimes ownWord
 returns c =
-    let c6 = c .before .before .before .before .before .before in
-    let s = c6 .before .before .before .before in
-    let f = ownTime (s .args .pick .0) (s .args .joined .now) in
-    c .before .before .copy-half .ensures ∙ rw (first-rows (s .args .n) f (c6 .own-half .last .0) (s .args .out .now) (c6 .own-half .ensures))
+    let s = c .before .before .before .before .before .args in
+    twice-all (s .n) (ownTime (s .pick .0) (s .joined .now)) (c .before .loop .inv .1) (mul-le-mul-right (s .n) (c .loop-test .left))
 
 pub own-spec : {M : Type 1} → statement M
 own-spec =
     tie.close
     (tie.spec
-    mul-m
-    sub-own-half
-    part-own-half-start
-    part-own-half-end
-    own-half-requires
-    copy-half-requires
+    Inv-loop
+    μ-loop
+    board-bits-requires
+    loop-holds
+    sub-own-row
+    part-own-row-start
+    part-own-row-end
+    own-row-requires
+    add-u
+    loop-less
+    loop-again
     same-length
     returns)

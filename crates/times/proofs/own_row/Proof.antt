@@ -1,18 +1,23 @@
--- `times::own_row` meets its contract. The invariant is `Made`.
+-- `times::own_row` meets its contract: a turn makes one word of each half (`twice-turn`), which is the own time (`own-word`).
 -- Assumes nothing.
-use Prim.Native.Nat.{_-_}
-use Rattle.lists.proofs.Tab.{Made, made-start, made-turn, made-all}
-use Rattle.model.specs.Recording.{link, bit}
-use Rattle.times.specs.Times.{ownTime}
+use mathlib.Core.Path.{_≡_, ap, _∙_}
+use Prim.Native.Nat.{_+_, _*_, _-_, _≤_}
+use native.Mathlib.Nat.{add-zero}
+use native.Mathlib.Omega.{arith}
+use lib.ListN.{length, length-set}
+use Rattle.lists.proofs.Tab.{length-tab}
+use Rattle.times.specs.Own.{boardBit, ownWord, Twice}
+use Rattle.times.proofs.Twice.{twice-turn, own-word}
+use Rattle.times.proofs.Rows.{cell-lt}
 use borrow.Author.Needs.{needs}
 use Rattle.times.proofs.own_row.Statement.{statement}
 use Rattle.times.proofs.own_row.Tie as tie
 
 abbrev Inv-loop : tie.InvT-loop
-Inv-loop out₀ joined n u word p v₀ out v = Made (ownTime p joined u) n out₀ out v
+Inv-loop out₀ bits joined n u word p at m v₀ out v = (v ≤ n) × Twice (n * n) (ownWord n p joined) out (u * n + v)
 
 abbrev μ-loop : tie.MeasureT-loop
-μ-loop out₀ joined n u word p v₀ out v = n - v
+μ-loop out₀ bits joined n u word p at m v₀ out v = n - v
 
 mul-word : tie.Need-mul-word Inv-loop μ-loop
 mul-word c = search needs
@@ -23,23 +28,54 @@ shared-slice-read-word c = search needs
 cast-p : tie.Need-cast-p Inv-loop μ-loop
 cast-p c = search needs
 
+mul-at : tie.Need-mul-at Inv-loop μ-loop
+mul-at c = search needs
+
+mul-m : tie.Need-mul-m Inv-loop μ-loop
+mul-m c = search needs
+
 loop-holds : tie.Need-loop-holds Inv-loop μ-loop
-loop-holds c = made-start (c .before .before .before .before .pre .1 .1 .1 .0)
+loop-holds c = (search needs, rw add-zero (c .before .before .before .before .before .pre .made))
 
-cast-keep : tie.Need-cast-keep Inv-loop μ-loop
-cast-keep c = search needs
+mul-own-time : tie.Need-mul-own-time Inv-loop μ-loop
+mul-own-time c = search needs
 
-shr-keep : tie.Need-shr-keep Inv-loop μ-loop
-shr-keep c = search needs
+shared-slice-read-own-time : tie.Need-shared-slice-read-own-time Inv-loop μ-loop
+shared-slice-read-own-time c =
+    let c8 = c .before .before .before .before .before .before .before .before in
+    omega (arith, c .before .loop-test .taken, ap length (c8 .pre .table) ∙ length-tab boardBit _)
 
-keep-requires : tie.Need-keep-requires Inv-loop μ-loop
-keep-requires c κs = search needs
+own-time-requires : tie.Need-own-time-requires Inv-loop μ-loop
+own-time-requires c κs = search needs
+
+add-i : tie.Need-add-i Inv-loop μ-loop
+add-i c = search needs
 
 mul-out : tie.Need-mul-out Inv-loop μ-loop
 mul-out c = search needs
 
 slice-write-out : tie.Need-slice-write-out Inv-loop μ-loop
-slice-write-out c = search needs
+slice-write-out c =
+    let c3 = c .before .before .before in
+    let c9 = c3 .before .before .before .before .before .before in
+    omega (arith, cell-lt _ (c9 .pre .below) (c .before .before .loop-test .taken), c3 .loop .inv .1 .long)
+
+add-out : tie.Need-add-out Inv-loop μ-loop
+add-out c = search needs
+
+mul-out-2 : tie.Need-mul-out-2 Inv-loop μ-loop
+mul-out-2 c = search needs
+
+slice-write-out-2 : tie.Need-slice-write-out-2 Inv-loop μ-loop
+slice-write-out-2 c =
+    let c3 = c .before .before .before in
+    let c9 = c3 .before .before .before .before .before .before in
+    omega (
+      arith,
+      cell-lt _ (c9 .pre .below) (c .before .before .loop-test .taken),
+      c3 .loop .inv .1 .long,
+      length-set (c3 .loop .out) (c9 .args .from .0 * c9 .args .n + c3 .loop .v) (c .own-time .result),
+    )
 
 add-v : tie.Need-add-v Inv-loop μ-loop
 add-v c = search needs
@@ -48,14 +84,21 @@ loop-less : tie.Need-loop-less Inv-loop μ-loop
 loop-less c = search needs
 
 loop-again : tie.Need-loop-again Inv-loop μ-loop
-unfolding ownTime link bit
-loop-again c = made-turn (c .before .before .loop .inv) (c .before .loop-test .taken) (c .keep .ensures)
+loop-again c =
+    let c3 = c .before .before .before in
+    let c9 = c3 .before .before .before .before .before .before in
+    let s = c9 .args in
+    let h = c .before .before .loop-test .taken in
+    let q = own-word (s .n) (s .pick .0) (s .joined .now) (s .bits .now) (s .from .0) (c3 .loop .v) (c9 .pre .table) (c9 .pre .below) h in
+    (omega arith, twice-turn (c3 .loop .inv .1) (cell-lt (s .n) (c9 .pre .below) h) (c .own-time .ensures ∙ q) (omega arith))
 
 same-length : tie.Need-same-length Inv-loop μ-loop
 same-length c = search needs
 
 returns : tie.Need-returns Inv-loop μ-loop
-returns c = made-all (c .before .loop .inv) (c .loop-test .left)
+returns c =
+    let c7 = c .before .before .before .before .before .before .before in
+    let e : c .before .loop .v ≡ c7 .args .n = omega arith in rw e at (c .before .loop .inv .1)
 
 pub own-row-spec : {M : Type 1} → statement M
 own-row-spec =
@@ -66,12 +109,18 @@ own-row-spec =
     mul-word
     shared-slice-read-word
     cast-p
+    mul-at
+    mul-m
     loop-holds
-    cast-keep
-    shr-keep
-    keep-requires
+    mul-own-time
+    shared-slice-read-own-time
+    own-time-requires
+    add-i
     mul-out
     slice-write-out
+    add-out
+    mul-out-2
+    slice-write-out-2
     add-v
     loop-less
     loop-again

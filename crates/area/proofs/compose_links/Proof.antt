@@ -1,0 +1,63 @@
+-- `area::compose_links` meets its contract: the part that is lent is composed with the copy.
+-- Assumes nothing.
+use native.Mathlib.Omega.{arith}
+use native.Mathlib.Nat.{add-sub-cancel-left}
+use Rattle.area.specs.Parts.{part, putPart}
+use Rattle.area.proofs.Lent.{fits}
+use borrow.Author.Needs.{needs}
+use Rattle.area.proofs.compose_links.Statement.{statement}
+use Rattle.area.proofs.compose_links.Tie as tie
+
+take-part-requires : tie.Need-take-part-requires
+take-part-requires c κs = search needs
+
+sub-at : tie.Need-sub-at
+sub-at c = search needs
+
+mul-at : tie.Need-mul-at
+mul-at c = omega (arith, fits (c .before .before .before .before .before .before .before .pre .2))
+
+add-join-over : tie.Need-add-join-over
+add-join-over c = omega (arith, fits (c .before .before .before .before .before .before .before .pre .2))
+
+mul-join-over : tie.Need-mul-join-over
+mul-join-over c = omega (arith, fits (c .before .before .before .before .before .before .before .pre .2))
+
+sub-join-over : tie.Need-sub-join-over
+sub-join-over c = search needs
+
+part-join-over-start : tie.Need-part-join-over-start
+part-join-over-start c = search needs
+
+part-join-over-end : tie.Need-part-join-over-end
+part-join-over-end c = omega (arith, fits (c .before .before .before .before .before .before .before .pre .2))
+
+join-over-requires : tie.Need-join-over-requires
+join-over-requires c κs = search needs
+
+same-length : tie.Need-same-length
+same-length c = search needs
+
+same-length-2 : tie.Need-same-length-2
+same-length-2 c = search needs
+
+returns : tie.Need-returns
+unfolding putPart part
+returns c = simp (add-sub-cancel-left, c .before .before .join-over .ensures, c .before .before .before .before .before .before .before .take-part .ensures)
+
+pub compose-links-spec : {M : Type 1} → statement M
+compose-links-spec =
+    tie.close
+    (tie.spec
+    take-part-requires
+    sub-at
+    mul-at
+    add-join-over
+    mul-join-over
+    sub-join-over
+    part-join-over-start
+    part-join-over-end
+    join-over-requires
+    same-length
+    same-length-2
+    returns)

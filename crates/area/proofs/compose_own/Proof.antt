@@ -1,0 +1,65 @@
+-- `area::compose_own` meets its contract, measure by measure.
+-- Assumes nothing.
+use mathlib.Core.Path.{sym, _∙_}
+use Rattle.measures.proofs.Words.{width-times, width-links}
+use Rattle.area.proofs.Lent.{has-at, onto-times, onto-reach, onto-own}
+use borrow.Author.Needs.{needs}
+use Rattle.area.proofs.compose_own.Statement.{statement}
+use Rattle.area.proofs.compose_own.Tie as tie
+
+compose-times-requires : tie.Need-compose-times-requires
+compose-times-requires c κs =
+    let h = c .before .before .before .before .before .before .pre in
+    let q = sym (width-times (c .before .before .before .before .before .before .args .measure) (c .before .before .before .before .before .before .args .n) (c .before .before .if1 .taken)) in
+    (h .0, q ∙ h .1, has-at q (h .2), has-at q (h .3))
+
+same-length : tie.Need-same-length
+same-length c = search needs
+
+same-length-2 : tie.Need-same-length-2
+same-length-2 c = search needs
+
+returns : tie.Need-returns
+returns c = c .before .before .before .before .compose-times .ensures ∙ onto-times _ _ _ _ _ (c .before .before .before .before .before .before .before .if1 .taken)
+
+compose-links-requires : tie.Need-compose-links-requires
+compose-links-requires c κs =
+    let h = c .before .before .before .before .before .before .before .pre in
+    let q = sym (width-links (c .before .before .before .before .before .before .before .args .measure) (c .before .before .before .before .before .before .before .args .n) (c .before .before .before .if1 .left)) in
+    (h .0, q ∙ h .1, has-at q (h .2), has-at q (h .3))
+
+same-length-3 : tie.Need-same-length-3
+same-length-3 c = search needs
+
+same-length-4 : tie.Need-same-length-4
+same-length-4 c = search needs
+
+returns-2 : tie.Need-returns-2
+returns-2 c = c .before .before .before .before .compose-links .ensures ∙ onto-reach _ _ _ _ _ (c .before .before .before .before .before .before .before .if2 .taken)
+
+compose-with-requires : tie.Need-compose-with-requires
+compose-with-requires c κs =
+    let h = c .before .before .before .before .before .before .pre in
+    (c .before .before .if1 .left, c .before .if2 .left, search needs, has-at (sym (width-links (c .before .before .before .before .before .before .args .measure) (c .before .before .before .before .before .before .args .n) (c .before .before .if1 .left))) (h .2))
+
+same-length-5 : tie.Need-same-length-5
+same-length-5 c = search needs
+
+returns-3 : tie.Need-returns-3
+returns-3 c = c .before .before .compose-with .ensures ∙ onto-own _ _ _ _ _ _ (c .before .before .before .before .before .if1 .left) (c .before .before .before .before .if2 .left) (c .before .before .before .before .before .before .before .before .before .pre .5)
+
+pub compose-own-spec : {M : Type 1} → statement M
+compose-own-spec =
+    tie.close
+    (tie.spec
+    compose-times-requires
+    same-length
+    same-length-2
+    returns
+    compose-links-requires
+    same-length-3
+    same-length-4
+    returns-2
+    compose-with-requires
+    same-length-5
+    returns-3)

@@ -1,0 +1,55 @@
+-- `area::compose_with` meets its contract: the part that is lent is composed with the words.
+-- Assumes nothing.
+use native.Mathlib.Omega.{arith}
+use native.Mathlib.Nat.{add-sub-cancel-left}
+use Rattle.area.specs.Parts.{part, putPart}
+use Rattle.area.proofs.Lent.{fits}
+use borrow.Author.Needs.{needs}
+use Rattle.area.proofs.compose_with.Statement.{statement}
+use Rattle.area.proofs.compose_with.Tie as tie
+
+sub-at : tie.Need-sub-at
+sub-at c = search needs
+
+mul-at : tie.Need-mul-at
+mul-at c = omega (arith, fits (c .before .before .pre .3))
+
+add-compose-words : tie.Need-add-compose-words
+add-compose-words c = omega (arith, fits (c .before .before .pre .3))
+
+mul-compose-words : tie.Need-mul-compose-words
+mul-compose-words c = omega (arith, fits (c .before .before .pre .3))
+
+sub-compose-words : tie.Need-sub-compose-words
+sub-compose-words c = search needs
+
+part-compose-words-start : tie.Need-part-compose-words-start
+part-compose-words-start c = search needs
+
+part-compose-words-end : tie.Need-part-compose-words-end
+part-compose-words-end c = omega (arith, fits (c .before .before .pre .3))
+
+compose-words-requires : tie.Need-compose-words-requires
+compose-words-requires c κs = search needs
+
+same-length : tie.Need-same-length
+same-length c = search needs
+
+returns : tie.Need-returns
+unfolding putPart part
+returns c = simp (add-sub-cancel-left, c .before .before .compose-words .ensures)
+
+pub compose-with-spec : {M : Type 1} → statement M
+compose-with-spec =
+    tie.close
+    (tie.spec
+    sub-at
+    mul-at
+    add-compose-words
+    mul-compose-words
+    sub-compose-words
+    part-compose-words-start
+    part-compose-words-end
+    compose-words-requires
+    same-length
+    returns)

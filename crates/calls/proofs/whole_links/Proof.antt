@@ -1,0 +1,44 @@
+-- `calls::whole_links` meets its contract: a table of links has n words.
+-- Assumes nothing.
+use mathlib.Core.Path.{_∙_}
+use Rattle.lists.proofs.Zeros.{lent-length}
+use Rattle.measures.proofs.Words.{width-links}
+use borrow.Author.Needs.{needs}
+use Rattle.calls.proofs.whole_links.Statement.{statement}
+use Rattle.calls.proofs.whole_links.Tie as tie
+
+no-words-requires : tie.Need-no-words-requires
+no-words-requires c κs = search needs
+
+sub-whole-steps : tie.Need-sub-whole-steps
+sub-whole-steps c = search needs
+
+part-right-start : tie.Need-part-right-start
+part-right-start c = search needs
+
+part-right-end : tie.Need-part-right-end
+part-right-end c = search needs
+
+whole-steps-requires : tie.Need-whole-steps-requires
+whole-steps-requires c κs =
+    let s = c .before .before .before .before .before in
+    let b = s .pre .0 .ready .able .few in
+    (s .pre .0, width-links (s .args .p .measure) (s .args .p .boards) (s .pre .1) ∙ lent-length _ _ _ (c .before .before .no-words .ensures) b)
+
+same-length : tie.Need-same-length
+same-length c = search needs
+
+returns : tie.Need-returns
+returns c = search needs
+
+pub whole-links-spec : {M : Type 1} → statement M
+whole-links-spec =
+    tie.close
+    (tie.spec
+    no-words-requires
+    sub-whole-steps
+    part-right-start
+    part-right-end
+    whole-steps-requires
+    same-length
+    returns)

@@ -1,0 +1,60 @@
+-- `calls::whole_times` meets its contract: a table of times has n × n words twice, 2048 at most.
+-- Assumes nothing.
+use mathlib.Core.Path.{ap, _∙_}
+use native.Mathlib.Nat.{mul-le-mul}
+use native.Mathlib.Omega.{arith}
+use lib.ListN.{length}
+use Rattle.lists.proofs.Tab.{length-zeros}
+use Rattle.lists.proofs.Zeros.{lent-length}
+use Rattle.measures.proofs.Words.{width-times}
+use borrow.Author.Needs.{needs}
+use Rattle.calls.proofs.whole_times.Statement.{statement}
+use Rattle.calls.proofs.whole_times.Tie as tie
+
+mul-e : tie.Need-mul-e
+mul-e c = let b = c .before .before .pre .0 .ready .able .few in omega (arith, mul-le-mul b b)
+
+mul-e-2 : tie.Need-mul-e-2
+mul-e-2 c = let b = c .before .before .pre .0 .ready .able .few in omega (arith, mul-le-mul b b)
+
+add-e : tie.Need-add-e
+add-e c = let b = c .before .before .pre .0 .ready .able .few in omega (arith, mul-le-mul b b)
+
+no-times-requires : tie.Need-no-times-requires
+no-times-requires c κs = search needs
+
+sub-whole-steps : tie.Need-sub-whole-steps
+sub-whole-steps c = search needs
+
+part-right-start : tie.Need-part-right-start
+part-right-start c = search needs
+
+part-right-end : tie.Need-part-right-end
+part-right-end c = let b = c .before .before .before .before .pre .0 .ready .able .few in omega (arith, mul-le-mul b b, ap length (c .before .no-times .ensures) ∙ length-zeros 2048)
+
+whole-steps-requires : tie.Need-whole-steps-requires
+whole-steps-requires c κs =
+    let s = c .before .before .before .before .before in
+    let b = s .pre .0 .ready .able .few in
+    (s .pre .0, width-times (s .args .p .measure) (s .args .p .boards) (s .pre .1) ∙ lent-length _ _ _ (c .before .before .no-times .ensures) (omega (arith, mul-le-mul b b)))
+
+same-length : tie.Need-same-length
+same-length c = search needs
+
+returns : tie.Need-returns
+returns c = search needs
+
+pub whole-times-spec : {M : Type 1} → statement M
+whole-times-spec =
+    tie.close
+    (tie.spec
+    mul-e
+    mul-e-2
+    add-e
+    no-times-requires
+    sub-whole-steps
+    part-right-start
+    part-right-end
+    whole-steps-requires
+    same-length
+    returns)

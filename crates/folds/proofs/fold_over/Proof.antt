@@ -1,0 +1,110 @@
+-- `folds::fold_over` meets its contract. The invariant is `Rowed`: a row is as it was when it takes in its fold.
+-- Assumes nothing.
+use mathlib.Core.Bool.{false}
+use mathlib.Core.Path.{_∙_}
+use Prim.Native.Nat.{_-_, _*_}
+use native.Mathlib.Omega.{arith}
+use Rattle.times.specs.Times.{cell}
+use Rattle.times.proofs.Rows.{row-le, part-length, Rowed, rowed-start, rowed-read, rowed-turn, rowed-all}
+use Rattle.folds.specs.Folds.{joinedRow}
+use Rattle.folds.proofs.Gathered.{joined-lent}
+use borrow.Author.Needs.{needs}
+use Rattle.folds.proofs.fold_over.Statement.{statement}
+use Rattle.folds.proofs.fold_over.Tie as tie
+
+abbrev Inv-loop : tie.InvT-loop
+Inv-loop half₀ folds n u₀ half u = Rowed n (λ i. joinedRow false (cell n half₀ i) (cell n folds i) i) half₀ half u
+
+abbrev μ-loop : tie.MeasureT-loop
+μ-loop half₀ folds n u₀ half u = n - u
+
+loop-holds : tie.Need-loop-holds Inv-loop μ-loop
+loop-holds c = rowed-start (c .before .before .pre .1 .0)
+
+mul-at : tie.Need-mul-at Inv-loop μ-loop
+mul-at c = omega (arith, row-le _ (c .loop-test .taken))
+
+add-take-fold : tie.Need-add-take-fold Inv-loop μ-loop
+add-take-fold c = omega (arith, row-le _ (c .loop-test .taken))
+
+mul-take-fold : tie.Need-mul-take-fold Inv-loop μ-loop
+mul-take-fold c = omega (arith, row-le _ (c .loop-test .taken))
+
+sub-take-fold : tie.Need-sub-take-fold Inv-loop μ-loop
+sub-take-fold c = search needs
+
+part-take-fold-start : tie.Need-part-take-fold-start Inv-loop μ-loop
+part-take-fold-start c = search needs
+
+part-take-fold-end : tie.Need-part-take-fold-end Inv-loop μ-loop
+part-take-fold-end c = omega (arith, row-le _ (c .loop-test .taken))
+
+add-take-fold-2 : tie.Need-add-take-fold-2 Inv-loop μ-loop
+add-take-fold-2 c = omega (arith, row-le _ (c .before .loop-test .taken))
+
+mul-take-fold-2 : tie.Need-mul-take-fold-2 Inv-loop μ-loop
+mul-take-fold-2 c = omega (arith, row-le _ (c .before .loop-test .taken))
+
+sub-take-fold-2 : tie.Need-sub-take-fold-2 Inv-loop μ-loop
+sub-take-fold-2 c = search needs
+
+part-take-fold-start-2 : tie.Need-part-take-fold-start-2 Inv-loop μ-loop
+part-take-fold-start-2 c = search needs
+
+part-take-fold-end-2 : tie.Need-part-take-fold-end-2 Inv-loop μ-loop
+part-take-fold-end-2 c = omega (arith, row-le _ (c .before .loop-test .taken))
+
+take-fold-requires : tie.Need-take-fold-requires Inv-loop μ-loop
+take-fold-requires c κs =
+    let c3 = c .before .before .before in
+    let c6 = c3 .before .before .before in
+    let at = c3 .loop .u * c6 .args .n in
+    let h = c .before .before .loop-test .taken in
+    let r = row-le (c6 .args .n) h in
+    (h, (part-length _ at (c3 .loop .half) (omega (arith, c3 .loop .inv .long)), part-length _ at (c6 .args .folds .now) (omega (arith, c6 .pre))))
+
+add-u : tie.Need-add-u Inv-loop μ-loop
+add-u c = search needs
+
+loop-less : tie.Need-loop-less Inv-loop μ-loop
+loop-less c = search needs
+
+loop-again : tie.Need-loop-again Inv-loop μ-loop
+loop-again c =
+    let c5 = c .before .before .before .before .before in
+    let c6 = c5 .before in
+    let c9 = c6 .before .before .before in
+    rowed-turn (c6 .loop .inv) (c5 .loop-test .taken)
+    (c .before .before .take-fold .ensures
+    ∙ rw (rowed-read (c6 .loop .inv)) (joined-lent false (c9 .args .n) (c6 .loop .u) (c9 .args .half .now) (c9 .args .folds .now)))
+
+same-length : tie.Need-same-length Inv-loop μ-loop
+same-length c = search needs
+
+returns : tie.Need-returns Inv-loop μ-loop
+returns c = rowed-all (c .before .loop .inv) (c .loop-test .left)
+
+pub fold-over-spec : {M : Type 1} → statement M
+fold-over-spec =
+    tie.close
+    (tie.spec
+    Inv-loop
+    μ-loop
+    loop-holds
+    mul-at
+    add-take-fold
+    mul-take-fold
+    sub-take-fold
+    part-take-fold-start
+    part-take-fold-end
+    add-take-fold-2
+    mul-take-fold-2
+    sub-take-fold-2
+    part-take-fold-start-2
+    part-take-fold-end-2
+    take-fold-requires
+    add-u
+    loop-less
+    loop-again
+    same-length
+    returns)

@@ -1,0 +1,72 @@
+-- `links::is_union` meets its contract: as `is_same`, with the words of the union.
+-- Assumes nothing.
+use mathlib.Core.Path.{_≡_, sym}
+use Prim.Native.Nat.{_-_, _≤_}
+use native.Mathlib.Omega.{arith}
+use lib.Dec.{eqb}
+use Rattle.lists.specs.Tab.{every}
+use Rattle.lists.proofs.Tab.{every-none, getD-tab}
+use Rattle.links.proofs.Gather.{gather-same}
+use Rattle.links.specs.Tables.{eitherRow, union, rowSame, same}
+use borrow.Author.Needs.{needs}
+use Rattle.links.proofs.is_union.Statement.{statement}
+use Rattle.links.proofs.is_union.Tie as tie
+
+abbrev Inv-loop : tie.InvT-loop
+Inv-loop list left right n bad₀ u₀ bad u = (u ≤ n) × (eqb bad 0 ≡ every (rowSame list (union n left right)) u)
+
+abbrev μ-loop : tie.MeasureT-loop
+μ-loop list left right n bad₀ u₀ bad u = n - u
+
+loop-holds : tie.Need-loop-holds Inv-loop μ-loop
+loop-holds c = (search needs, sym (every-none _))
+
+mul-bad : tie.Need-mul-bad Inv-loop μ-loop
+mul-bad c = search needs
+
+shared-slice-read-bad : tie.Need-shared-slice-read-bad Inv-loop μ-loop
+shared-slice-read-bad c = search needs
+
+mul-bad-2 : tie.Need-mul-bad-2 Inv-loop μ-loop
+mul-bad-2 c = search needs
+
+shared-slice-read-bad-2 : tie.Need-shared-slice-read-bad-2 Inv-loop μ-loop
+shared-slice-read-bad-2 c = search needs
+
+mul-bad-3 : tie.Need-mul-bad-3 Inv-loop μ-loop
+mul-bad-3 c = search needs
+
+shared-slice-read-bad-3 : tie.Need-shared-slice-read-bad-3 Inv-loop μ-loop
+shared-slice-read-bad-3 c = search needs
+
+add-u : tie.Need-add-u Inv-loop μ-loop
+add-u c = search needs
+
+loop-less : tie.Need-loop-less Inv-loop μ-loop
+loop-less c = search needs
+
+loop-again : tie.Need-loop-again Inv-loop μ-loop
+unfolding union eitherRow
+loop-again c = (search needs, gather-same _ _ _ (c .before .before .before .before .loop .bad) _ (c .before .before .before .before .loop .inv .1) (sym (getD-tab _ _ _ (c .before .before .before .loop-test .taken))))
+
+returns : tie.Need-returns Inv-loop μ-loop
+unfolding same
+returns c = let e : c .before .loop .u ≡ c .before .before .args .n = omega arith in rw e at (c .before .loop .inv .1)
+
+pub is-union-spec : {M : Type 1} → statement M
+is-union-spec =
+    tie.close
+    (tie.spec
+    Inv-loop
+    μ-loop
+    loop-holds
+    mul-bad
+    shared-slice-read-bad
+    mul-bad-2
+    shared-slice-read-bad-2
+    mul-bad-3
+    shared-slice-read-bad-3
+    add-u
+    loop-less
+    loop-again
+    returns)

@@ -1,0 +1,127 @@
+-- `steps::judge_ladders` meets its contract, by the ladders that the window lies on.
+-- Assumes nothing.
+use Prim.Native.Nat.{_+_}
+use mathlib.Core.Path.{_∙_}
+use native.Mathlib.Omega.{arith}
+use Rattle.place.specs.Places.{charged}
+use Rattle.steps.proofs.Fit.{able-has, in-part, links-has}
+use Rattle.steps.proofs.Ladders.{on-right, on-left, on-both, on-both-composed, spared-footprint, joined-pass}
+use borrow.Author.Needs.{needs}
+use Rattle.steps.proofs.judge_ladders.Statement.{statement}
+use Rattle.steps.proofs.judge_ladders.Tie as tie
+
+add-passes-part : tie.Need-add-passes-part
+add-passes-part c = search needs
+
+add-passes-part-2 : tie.Need-add-passes-part-2
+add-passes-part-2 c = search needs
+
+passes-part-requires : tie.Need-passes-part-requires
+passes-part-requires c κs = search needs
+
+tested-requires : tie.Need-tested-requires
+tested-requires c κs = search needs
+
+same-length : tie.Need-same-length
+same-length c = search needs
+
+returns : tie.Need-returns
+returns c = on-right _ _ (c .before .before .before .before .before .before .before .before .before .before .before .pre .0) (c .before .before .before .if1 .taken) (c .before .passes-part .ensures) (c .tested .ensures)
+
+add-passes-part-3 : tie.Need-add-passes-part-3
+add-passes-part-3 c = search needs
+
+passes-part-requires-2 : tie.Need-passes-part-requires-2
+passes-part-requires-2 c κs =
+    let s = c .before .before .before .before .before .before .before .before .before .before .before .before in
+    let f = s .pre .0 in
+    let fi = f .inside in
+    let ft = f .top in (
+      f .able .few,
+      (
+        able-has (f .able) (in-part (s .args .p .limit + 3) (omega arith) (omega arith)),
+        able-has (f .able) (in-part (s .args .p .start .0) (f .start) (omega arith)),
+      ),
+    )
+
+tested-requires-2 : tie.Need-tested-requires-2
+tested-requires-2 c κs = search needs
+
+same-length-2 : tie.Need-same-length-2
+same-length-2 c = search needs
+
+returns-2 : tie.Need-returns-2
+returns-2 c = on-left _ _ (c .before .before .before .before .before .before .before .before .before .before .before .before .before .before .pre .0) (c .before .before .before .before .before .before .if1 .left) (c .before .before .before .if2 .taken) (c .before .passes-part2 .ensures) (c .tested2 .ensures)
+
+try-window-requires : tie.Need-try-window-requires
+try-window-requires c κs = search needs
+
+same-length-3 : tie.Need-same-length-3
+same-length-3 c = search needs
+
+same-length-4 : tie.Need-same-length-4
+same-length-4 c = search needs
+
+returns-3 : tie.Need-returns-3
+returns-3 c = on-both-composed _ _ (c .before .before .before .before .before .before .before .before .before .before .before .before .if1 .left) (c .before .before .before .before .before .before .before .before .before .if2 .left) (c .before .before .before .before .before .before .before .if3 .taken) (c .before .before .before .before .try-window .ensures)
+
+add-joined-passes : tie.Need-add-joined-passes
+add-joined-passes c = search needs
+
+add-joined-passes-2 : tie.Need-add-joined-passes-2
+add-joined-passes-2 c = search needs
+
+joined-passes-requires : tie.Need-joined-passes-requires
+joined-passes-requires c κs =
+    let s = c .before .before .before .before .before .before .before .before .before .before .before .before .before .before in
+    let f = s .pre .0 in
+    let fi = f .inside in
+    let ft = f .top in
+    let n = c .before .if3 .left in (
+      f .able .few,
+      n,
+      spared-footprint (s .args .p) (s .pre .4) n,
+      links-has (f .able) n (in-part (s .args .p .limit + 3) (omega arith) (omega arith)),
+      links-has (f .able) n (in-part (s .args .p .start .0) (f .start) (omega arith)),
+      links-has (f .able) n (in-part (s .args .p .limit + 1) (omega arith) (omega arith)),
+    )
+
+charged-requires : tie.Need-charged-requires
+charged-requires c κs = search needs
+
+tested-requires-3 : tie.Need-tested-requires-3
+unfolding charged
+tested-requires-3 c κs = rw (c .charged .ensures) (c .before .before .before .before .before .before .before .before .before .before .before .before .before .before .before .before .pre .0 .tests)
+
+same-length-5 : tie.Need-same-length-5
+same-length-5 c = search needs
+
+returns-4 : tie.Need-returns-4
+returns-4 c = on-both _ _ (c .before .before .before .before .before .before .before .before .before .before .before .before .before .before .before .before .before .pre .0) (c .before .before .before .before .before .before .before .before .before .if1 .left) (c .before .before .before .before .before .before .if2 .left) (c .before .before .before .before .if3 .left) (c .before .before .joined-passes .ensures ∙ joined-pass (c .before .before .before .before .before .before .before .before .before .before .before .before .before .before .before .before .before .args .p) _ (c .before .before .before .before .if3 .left)) (c .before .charged .ensures) (c .tested3 .ensures)
+
+pub judge-ladders-spec : {M : Type 1} → statement M
+judge-ladders-spec =
+    tie.close
+    (tie.spec
+    add-passes-part
+    add-passes-part-2
+    passes-part-requires
+    tested-requires
+    same-length
+    returns
+    add-passes-part-3
+    passes-part-requires-2
+    tested-requires-2
+    same-length-2
+    returns-2
+    try-window-requires
+    same-length-3
+    same-length-4
+    returns-3
+    add-joined-passes
+    add-joined-passes-2
+    joined-passes-requires
+    charged-requires
+    tested-requires-3
+    same-length-5
+    returns-4)
