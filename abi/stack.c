@@ -49,7 +49,7 @@ static size_t used(unsigned char *stack) {
 }
 
 void test_stack(void) {
-    size_t most[KINDS_OF_CALL] = {0};
+    size_t most[2][KINDS_OF_CALL] = {{0}};
     void *stack;
     if (posix_memalign(&stack, 4096, STACK)) abort();
     job.area = words_of(NOOKMALLOW_AREA_WORDS(32, 4, PICKS));
@@ -57,17 +57,19 @@ void test_stack(void) {
         for (uint32_t u = 0; u < 32; u++) job.words[32 * k + u] = k == 0 ? ~(1u << u) : k % 2 ? 0 : 1u << (u + 1) % 32;
     for (job.measure = 1; job.measure <= 4; job.measure++) {
         for (job.call = 0; job.call < KINDS_OF_CALL; job.call++) {
-            size_t bytes = used(stack);
-            if (bytes > most[job.call]) most[job.call] = bytes;
+            size_t bytes = used(stack), *seen = &most[job.measure == 4][job.call];
+            if (bytes > *seen) *seen = bytes;
         }
     }
-    printf("stack:");
-    for (int c = 1; c < KINDS_OF_CALL; c++) {
-        printf(" %s %zu", names[c], most[c] - most[0]);
-        CHECK(most[c] - most[0] <= NOOKMALLOW_STACK_BYTES);
+    for (int times = 0; times < 2; times++) {
+        printf(times ? "stack, measure 4:" : "stack, measures 1 to 3:");
+        for (int c = 1; c < KINDS_OF_CALL; c++) {
+            printf(" %s %zu", names[c], most[times][c] - most[times][0]);
+            CHECK(most[times][c] - most[times][0] <= NOOKMALLOW_STACK_BYTES);
+        }
+        printf("\n");
     }
     CHECK(job.place.taken == PICKS);
-    printf("\n");
     free(stack);
     free(job.area);
 }

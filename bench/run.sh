@@ -1,6 +1,6 @@
 #!/bin/bash
 # Times the archive against the walk in hand-written Rust (walk.rs) and prints a table; then how the cost of a pick grows with the recording.
-# Its output is in target/bench. Needs rustc and valgrind. Takes one to two minutes, the proof of the archive not counted.
+# Its output is in target/bench. Needs rustc and valgrind. Takes some two minutes, the proof of the archive not counted.
 set -euo pipefail
 cd "$(dirname "$0")/.."
 archive=target/staticlib/libnookmallow.a
@@ -12,22 +12,29 @@ speed=target/bench/speed
 rustc -C opt-level=3 --edition 2021 bench/speed.rs -L target/staticlib -o "$speed"
 "$speed" compare
 
-# Instructions a pick: a run of one turn less a run of none, so that the start and the making of the recording drop out. Under valgrind a
-# string instruction counts once for each byte or word it moves, so the C library is told to use none.
+# Instructions a pick: a run of one turn less a run of none, so that the start and the making of the recording drop out; all of them, and those of them
+# that clear memory by the C library's memset. Under valgrind a string instruction counts once for each byte or word it moves, so the C library is told
+# to use none.
 export GLIBC_TUNABLES=glibc.cpu.x86_rep_stosb_threshold=1000000000:glibc.cpu.x86_rep_movsb_threshold=1000000000
-count() { valgrind --tool=callgrind --callgrind-out-file=/dev/null "$speed" "$@" 2>&1 | awk '/Collected/ {print $NF}'; }
+count() {
+    valgrind --tool=callgrind --callgrind-out-file=target/bench/callgrind "$speed" "$@" >/dev/null 2>&1
+    callgrind_annotate --threshold=100 target/bench/callgrind |
+        awk '{ n = $1; gsub(",", "", n) } /PROGRAM TOTALS/ { all = n } /memset/ { clear += n } END { print all + 0, clear + 0 }'
+}
 instructions() { # SIDE MEASURE RECORDING MODE
-    local picks=1024
-    echo $((($(count "$@" $picks 1) - $(count "$@" $picks 0)) / picks))
+    local picks=1024 one none
+    one=($(count "$@" $picks 1))
+    none=($(count "$@" $picks 0))
+    echo $(((one[0] - none[0]) / picks)) $(((one[1] - none[1]) / picks))
 }
 
-echo "| Measure | Recording | Mode | ns a pick, archive | ns, Rust | Ratio of time | Instructions a pick, archive | Instructions, Rust | Ratio of instructions |"
-echo "|---|---|---|---|---|---|---|---|---|"
+echo "| Measure | Recording | Mode | ns a pick, archive | ns, Rust | Ratio of time, median | Instructions a pick, archive | of these clearing | Instructions, Rust | of these clearing | Ratio of instructions |"
+echo "|---|---|---|---|---|---|---|---|---|---|---|"
 "$speed" times >target/bench/times
 while read -r measure kind mode ours theirs ratio; do
-    a=$(instructions archive "$measure" "$kind" "$mode")
-    b=$(instructions rust "$measure" "$kind" "$mode")
-    echo "| $measure | $kind | $mode | $ours | $theirs | $ratio | $a | $b | $(awk "BEGIN { printf \"%.2f\", $a / $b }") |"
+    a=($(instructions archive "$measure" "$kind" "$mode"))
+    b=($(instructions rust "$measure" "$kind" "$mode"))
+    echo "| $measure | $kind | $mode | $ours | $theirs | $ratio | ${a[0]} | ${a[1]} | ${b[0]} | ${b[1]} | $(awk "BEGIN { printf \"%.2f\", ${a[0]} / ${b[0]} }") |"
 done <target/bench/times
 
 echo

@@ -67,14 +67,19 @@ impl Rng {
 
 // Which links are open at each pick, n words a pick:
 // sparse: each link in a pick with probability 1/64, some 15 links a pick, so that windows are tens to hundreds of picks long;
+// short: each link with probability 3/32, so that windows of measures 3 and 4 are some picks long;
 // dense: each link with probability 1/2;
-// held: half of the links at first, and each link turns at a pick with probability 1/256, so that links stay for long.
+// one: a single link a pick;
+// held: half of the links at first, and each link turns at a pick with probability 1/256, so that links stay for long;
+// turning: the same with probability 1/16, so that windows of common links are some picks long;
+// ended: as dense, but for the second pick, which has no link and ends measure 1.
 fn recording(kind: &str, n: usize, picks: usize, seed: u64) -> Vec<u32> {
     let mut rng = Rng(seed);
     let all = u32::MAX >> (32 - n);
     let mut held = vec![0; n];
     let mut words = Vec::new();
     for p in 0..picks {
+        let only = rng.0 as usize % n;
         for u in 0..n {
             let half = rng.next();
             let mut few = rng.next();
@@ -83,11 +88,18 @@ fn recording(kind: &str, n: usize, picks: usize, seed: u64) -> Vec<u32> {
             }
             let word = match kind {
                 "sparse" => few,
+                "short" => half & rng.next() & rng.next() & (rng.next() | rng.next()),
                 "dense" => half,
-                "held" => {
-                    held[u] ^= if p == 0 { half } else { few & rng.next() & rng.next() };
+                "one" => u32::from(u == only) << (half % n as u32),
+                "held" | "turning" => {
+                    held[u] ^= match kind {
+                        _ if p == 0 => half,
+                        "held" => few & rng.next() & rng.next(),
+                        _ => half & rng.next() & rng.next() & rng.next(),
+                    };
                     held[u]
                 }
+                "ended" => if p == 1 { 0 } else { half },
                 _ => panic!("no recording {kind}"),
             };
             words.push(word & all & !(1 << u));
@@ -162,32 +174,60 @@ fn compare(n: usize, measure: u32, words: &[u32], altered: bool) {
     assert!(c == d && c[..len - 3].iter().all(|w| *w == 0) && c[len - 3..] == [0xbeef; 3]);
 }
 
-// Measure 1 on the sparse recording ends at its first pick: what is left is the checks.
-const CASES: [(u32, &str); 9] =
-    [(1, "held"), (1, "dense"), (1, "sparse"), (2, "sparse"), (2, "dense"), (3, "sparse"), (3, "dense"), (4, "sparse"), (4, "dense")];
+// Measure 1 on the sparse recording ends at its first pick, on the ended one at its second: what is left is the checks.
+const CASES: [(u32, &str); 17] = [
+    (1, "held"),
+    (1, "turning"),
+    (1, "dense"),
+    (1, "sparse"),
+    (1, "ended"),
+    (2, "sparse"),
+    (2, "short"),
+    (2, "dense"),
+    (2, "one"),
+    (3, "sparse"),
+    (3, "short"),
+    (3, "dense"),
+    (3, "one"),
+    (4, "sparse"),
+    (4, "short"),
+    (4, "dense"),
+    (4, "one"),
+];
 const MODES: [&str; 2] = ["whole", "picks"];
 const N: usize = 32;
 const SEED: u64 = 0x9e3779b97f4a7c15;
 
-// Nanoseconds a pick of each run, a side and a number of picks: the best of several turns that take the runs one after the other, so that
-// all of them meet the same disturbances of the machine.
-fn times(runs: &[(Side, usize)], measure: u32, kind: &str, mode: &str) -> Vec<f64> {
+// Nanoseconds a pick of each run, a side and a number of picks, in several turns that take the runs one after the other, so that all of them meet the
+// same disturbances of the machine: a row for each turn.
+fn turns(runs: &[(Side, usize)], measure: u32, kind: &str, mode: &str) -> Vec<Vec<f64>> {
     let most = runs.iter().map(|r| r.1).max().unwrap();
     let words = recording(kind, N, most, SEED);
     let lists: Vec<Vec<u32>> = runs.iter().map(|r| union(&words[..r.1 * N], N)).collect();
     let mut area = vec![0; (most + 4) * width(measure, N)];
-    let mut best = vec![f64::MAX; runs.len()];
+    let mut rows: Vec<Vec<f64>> = Vec::new();
     let began = Instant::now();
-    let mut turns = 0;
-    while turns < 9 || turns < 60 && began.elapsed().as_secs_f64() < 1.5 {
-        for (((side, picks), list), best) in runs.iter().zip(&lists).zip(&mut best) {
+    while rows.len() < 9 || rows.len() < 60 && began.elapsed().as_secs_f64() < 1.5 {
+        let row = runs.iter().zip(&lists).map(|((side, picks), list)| {
             let began = Instant::now();
             black_box(run(*side, mode, N, measure, &words[..picks * N], list, &mut area));
-            *best = best.min(began.elapsed().as_nanos() as f64 / *picks as f64);
-        }
-        turns += 1;
+            began.elapsed().as_nanos() as f64 / *picks as f64
+        });
+        rows.push(row.collect());
     }
-    best
+    rows
+}
+
+// The best time of each run.
+fn best(rows: &[Vec<f64>]) -> Vec<f64> {
+    (0..rows[0].len()).map(|k| rows.iter().map(|row| row[k]).fold(f64::MAX, f64::min)).collect()
+}
+
+// The median over the turns of the first run's time as a part of the second's.
+fn median_ratio(rows: &[Vec<f64>]) -> f64 {
+    let mut ratios: Vec<f64> = rows.iter().map(|row| row[0] / row[1]).collect();
+    ratios.sort_by(f64::total_cmp);
+    ratios[ratios.len() / 2]
 }
 
 // Both sides refuse the same calls with the same numbers, and leave the area as it was.
@@ -294,15 +334,16 @@ fn main() {
         ["times"] => {
             for (measure, kind) in CASES {
                 for mode in MODES {
-                    let best = times(&[(Side::Archive, 4096), (Side::Rust, 4096)], measure, kind, mode);
-                    println!("{measure} {kind} {mode} {:.1} {:.1} {:.2}", best[0], best[1], best[0] / best[1]);
+                    let rows = turns(&[(Side::Archive, 4096), (Side::Rust, 4096)], measure, kind, mode);
+                    let best = best(&rows);
+                    println!("{measure} {kind} {mode} {:.1} {:.1} {:.2}", best[0], best[1], median_ratio(&rows));
                 }
             }
         }
         ["growth"] => {
             for (measure, kind) in CASES {
                 for mode in MODES {
-                    let best = times(&[1024, 2048, 4096].map(|picks| (Side::Archive, picks)), measure, kind, mode);
+                    let best = best(&turns(&[1024, 2048, 4096].map(|picks| (Side::Archive, picks)), measure, kind, mode));
                     println!("{measure} {kind} {mode} {:.1} {:.1} {:.1}", best[0], best[1], best[2]);
                 }
             }
