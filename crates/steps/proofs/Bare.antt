@@ -7,7 +7,7 @@ use mathlib.Core.List.{List}
 use lib.ListN.{length, drop}
 use borrow.Author.Tests.{ne-eqb}
 use Rattle.model.specs.Journey.{val}
-use Rattle.measures.specs.Kit.{kit, either, widthOf}
+use Rattle.measures.specs.Kit.{kit, widthOf}
 use Rattle.area.proofs.Laws.{kit-wide, own-wide}
 use Rattle.place.specs.declared.Place.{Place}
 use Rattle.place.specs.Places.{pickTaken, startMoved}
@@ -18,7 +18,7 @@ use Rattle.steps.specs.Bare.{composes, bareTried, spared, bareStep}
 use Rattle.steps.proofs.Fit.{able-kept}
 use Rattle.steps.proofs.Grown.{entered-grown, tried-grown, enter-tries}
 use Rattle.steps.proofs.Closes.{spared-other}
-use Rattle.steps.proofs.Frames.{Frame, frame-room, then, weaker, entered-frame, tried-frame, stepped-frame}
+use Rattle.steps.proofs.Frames.{either-ind, Frame, frame-room, then, weaker, entered-frame, tried-frame, stepped-frame}
 use Rattle.steps.proofs.Alike.{StillAlike, alike-refl, alike-sym, alike-trans, alike-at, alike-tested, alike-cleared, alike-stepped}
 
 -- ---- by the measure
@@ -71,21 +71,11 @@ cleared-as p q b e g f top =
     subst (λ (m : ℕ). Alike q (cleared (kit m (p .boards)) (state q b) .area) b) e
     (subst (λ (n : ℕ). Alike q (cleared (kit (q .measure) n) (state q b) .area) b) g (alike-cleared q b f top))
 
--- an area as it is, or another that is like it
-alike-either : (p : Place) (x : Bool) {a b c : List ℕ} → Alike p a c → Alike p b c → Alike p (either x a b) c
-alike-either p true f g = f
-alike-either p false f g = g
-
 -- from a to b, the length and the words beyond the parts of the place p are as they were
 abbrev Kept : Place → List ℕ → List ℕ → Type 0
 Kept p a b =
     (length b ≡ length a)
     × (drop ((p .limit + 4) * widthOf (p .measure) (p .boards)) b ≡ drop ((p .limit + 4) * widthOf (p .measure) (p .boards)) a)
-
--- either of two that are kept
-kept-either : (p : Place) (a : List ℕ) (x : Bool) (b c : List ℕ) → Kept p a b → Kept p a c → Kept p a (either x b c)
-kept-either p a true b c f g = f
-kept-either p a false b c f g = g
 
 -- what a frame keeps
 frame-kept : (p : Place) (a : List ℕ) {q : State} {Out : ℕ → Type 0} → Frame (kitOf p) (state p a) q Out → Kept p a (q .area)
@@ -149,7 +139,8 @@ module _ (p : Place) (w a : List ℕ) (t : Takes p (length a) (length w)) where
       let able : Able r (length (u .area)) = subst (λ (i : ℕ). Able r i) kept (able-kept (n .boards) (n .measure) (n .limit) (f .able)) in
       let x : Alike r (u .area) (st .area) = alike-at (n .measure) (n .boards) (n .limit) (n .taken) (tested-as p q (st .area) (g .measure) (g .boards) f) in
       let y : Alike r (cleared K u .area) (u .area) = cleared-as p r (u .area) (n .measure ∙ g .measure) (n .boards ∙ g .boards) able (omega arith) in
-      alike-trans (alike-either r (composes q) (alike-refl r (u .area)) (alike-sym x)) (alike-sym y)
+      alike-trans
+      (either-ind (λ (z : List ℕ). Alike r z (u .area)) (composes q) (u .area) (st .area) (λ o. alike-refl r (u .area)) (λ o. alike-sym x)) (alike-sym y)
 
 -- THE AREA after a bare step is one that the walk cannot tell from its own.
 pub bare-alike : (p : Place) (w a : List ℕ) → Takes p (length a) (length w)
@@ -181,8 +172,8 @@ tested-kept : (p : Place) (w a : List ℕ) → Takes p (length a) (length w)
 unfolding bareTried
 tested-kept p w a t =
     let st = entered (kitOf p) (val (p .passed)) w (state p a) in
-    kept-either p a (composes (st .place)) (tried (kitOf p) st .area) (st .area)
-    (frame-kept p a (tested-none p w a t)) (frame-kept p a (entered-none p w a t))
+    either-ind (Kept p a) (composes (st .place)) (tried (kitOf p) st .area) (st .area)
+    (λ o. frame-kept p a (tested-none p w a t)) (λ o. frame-kept p a (entered-none p w a t))
 
 -- in the walk
 stepped-kept : (p : Place) (w a : List ℕ) → Takes p (length a) (length w) → Kept p a (stepped (kitOf p) w (state p a) .area)

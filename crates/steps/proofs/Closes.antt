@@ -15,7 +15,7 @@ use Rattle.place.specs.Places.{pickTaken, startMoved}
 use Rattle.steps.specs.Walk.{State, state, kitOf, entered, tried, cleared, minStep, raised, again, climbed, ended, maxStep, stepped}
 use Rattle.steps.specs.Alike.{finished}
 use Rattle.steps.specs.Bare.{spared, bareTried, bareStep, stepBy}
-use Rattle.steps.specs.Fit.{Entry, Takes, Does}
+use Rattle.steps.specs.Fit.{rise, Entry, Takes, Does}
 use Rattle.steps.proofs.Fit.{entry-by, does-at, does-kit}
 use Rattle.steps.proofs.Grown.{entered-grown, tried-grown, raised-grown}
 use Rattle.steps.proofs.Rises.{climbed-along}
@@ -23,13 +23,13 @@ use Rattle.steps.proofs.Rises.{climbed-along}
 -- ---- by the measure
 
 -- what the start moves by
-pub moves-max : (p : Place) {k : ℕ} → p .measure ≡ 1 → k ≡ val (either (eqb (p .measure) 1) (p .failed) (p .passed)) → k ≡ val (p .failed)
+pub moves-max : (p : Place) {k : ℕ} → p .measure ≡ 1 → k ≡ rise p → k ≡ val (p .failed)
 moves-max p e g = g ∙ rw (eq-eqb (p .measure) 1 e)
 
-pub moves-min : (p : Place) {k : ℕ} → p .measure ≢ 1 → k ≡ val (either (eqb (p .measure) 1) (p .failed) (p .passed)) → k ≡ val (p .passed)
+pub moves-min : (p : Place) {k : ℕ} → p .measure ≢ 1 → k ≡ rise p → k ≡ val (p .passed)
 moves-min p e g = g ∙ rw (ne-eqb (p .measure) 1 e)
 
-pub takes-entry : (p : Place) {k words links : ℕ} → k ≡ val (either (eqb (p .measure) 1) (p .failed) (p .passed)) → Takes p words links → Entry p k words
+pub takes-entry : (p : Place) {k words links : ℕ} → k ≡ rise p → Takes p words links → Entry p k words
 takes-entry p {k} {words} e t = entry-by e (go (eqb (p .measure) 1))
   where
     go : (x : Bool) → Entry p (val (either x (p .failed) (p .passed))) words
@@ -114,7 +114,7 @@ module _ (p : Place) (a : List ℕ) (w : List ℕ) (h : p .taken .0 + 1 ≤ p .l
       let g = entered-grown (kitOf p) k w (state p a) h in
       ap (λ (x : Place). spared x) (d .0) ∙ ap (λ (m : ℕ). eqb m 2 || (eqb m 3 || eqb m 4)) (g .measure) ∙ spared-kept p kept e .1
 
-  pub bare-closes : (kept : Bool) {k : ℕ} {q r : Place} {b c : List ℕ} → (not kept && spared p) ≡ true → k ≡ val (either (eqb (p .measure) 1) (p .failed) (p .passed))
+  pub bare-closes : (kept : Bool) {k : ℕ} {q r : Place} {b c : List ℕ} → (not kept && spared p) ≡ true → k ≡ rise p
       → Does (entered (kitOf p) k w) p a q b → Does (bareTried (kitOf q)) q b r c → Does (stepBy kept (kitOf p) w) p a r c
   unfolding bareStep startMoved pickTaken
   bare-closes kept {k} {q} {r} {b} {c} s e n l =

@@ -15,9 +15,9 @@ use Rattle.model.specs.Journey.{val}
 use Rattle.measures.specs.Kit.{Kit, either}
 use Rattle.area.specs.Parts.{part}
 use Rattle.area.proofs.Laws.{Wide, own-length, own-other, own-beyond, compose-length, compose-other, compose-beyond, copy-length, copy-other, copy-beyond, zero-length, zero-other, zero-beyond}
-use Rattle.place.specs.declared.Place.{Place}
 use Rattle.place.specs.Places.{pickTaken, startMoved, turned, charged, tested}
 use Rattle.model.proofs.Bits.{val-le}
+use Rattle.steps.specs.Fit.{rise}
 use Rattle.steps.specs.Walk.{State, state, ladder, written, rebuilt, joinedArea, joined, more, far, extendedBy, extended, entered, windowArea, onLeft, onRight, windowed, judged, tried, cleared, minStep, raisedBy, raised, again, climb, climbed, ended, maxStep, stepped}
 
 -- a choice, by the test's two cases
@@ -51,10 +51,6 @@ pub record Untouched (from upto limit j : ℕ) : Type 0 where
   pub beside : Beside from upto limit j
   pub own : j ≢ upto
   pub spare : j ≢ limit + 4
-
--- what s rises by as a pick is taken, before its test
-abbrev pub rise : Place → ℕ
-rise p = val (either (eqb (p .measure) 1) (p .failed) (p .passed))
 
 -- ---- one step after another
 

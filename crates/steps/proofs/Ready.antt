@@ -14,13 +14,13 @@ use Rattle.measures.specs.Kit.{either, widthOf}
 use Rattle.place.specs.declared.Place.{Place}
 use Rattle.place.specs.Places.{Sound, pickTaken, startMoved}
 use Rattle.steps.specs.Walk.{state, kitOf, entered, tried, cleared, minStep, climbed, ended, maxStep, stepped}
-use Rattle.steps.specs.Fit.{Takes, Ready}
+use Rattle.steps.specs.Fit.{rise, Takes, Ready}
 use Rattle.steps.proofs.Fit.{able-kept}
 use Rattle.model.proofs.Bits.{val-le}
 use Rattle.steps.proofs.Grown.{Grown, grown-on, entered-grown, entered-near, tried-grown, tried-bound}
 use Rattle.steps.proofs.Rises.{climbed-along}
 use Rattle.area.proofs.Laws.{kit-wide, own-wide}
-use Rattle.steps.proofs.Frames.{Frame, stepped-frame, Untouched, rise}
+use Rattle.steps.proofs.Frames.{Frame, stepped-frame, Untouched}
 
 -- ---- what `step` requires
 

@@ -10,8 +10,8 @@ use Rattle.area.specs.Parts.{part}
 use Rattle.place.specs.declared.Place.{Place}
 use Rattle.steps.specs.Walk.{ended}
 
--- Two areas that a walk at the place p cannot tell apart. Steps within a pick keep this as it stands; from pick to pick it is kept up to the end of measure 1, after which m rises
--- and no part is written: `StillAlike` of the proofs is what a whole run keeps.
+-- Two areas that a walk at the place p cannot tell apart. Steps within a pick keep this as it stands; from pick to pick it is kept up to the end of
+-- measure 1, after which m rises and no part is written: `StillAlike` of the proofs is what a whole run keeps.
 pub record Alike (p : Place) (a b : List ℕ) : Type 0 where
   pub picks : (i : ℕ) → 1 ≤ i → i ≤ p .taken .0 → part (widthOf (p .measure) (p .boards)) a i ≡ part (widthOf (p .measure) (p .boards)) b i
   pub right : 1 ≤ p .taken .0 → part (widthOf (p .measure) (p .boards)) a (p .limit + 1) ≡ part (widthOf (p .measure) (p .boards)) b (p .limit + 1)

@@ -3,9 +3,10 @@ use Prim.Native.Nat.{ℕ, _+_, _*_, _≤_}
 use mathlib.Core.Path.{_≡_}
 use mathlib.Core.Bool.{false}
 use mathlib.Core.List.{List}
+use lib.Dec.{eqb}
 use lib.ListN.{length}
 use Rattle.model.specs.Journey.{val}
-use Rattle.measures.specs.Kit.{widthOf}
+use Rattle.measures.specs.Kit.{either, widthOf}
 use Rattle.area.specs.Parts.{part}
 use Rattle.place.specs.declared.Place.{Place}
 use Rattle.steps.specs.Walk.{State, state, kitOf}
@@ -39,6 +40,10 @@ pub record Fit (p : Place) (words : ℕ) : Type 0 where
   pub bound : p .boundary .0 ≤ p .taken .0
   pub comps : p .compositions .0 ≤ 100000000
   pub tests : p .tests .0 ≤ 100000000
+
+-- what the start moves by at a new pick: one, under measure 1 once a test has failed, under the others after a test that passed
+abbrev pub rise : Place → ℕ
+rise p = val (either (eqb (p .measure) 1) (p .failed) (p .passed))
 
 -- a place that takes a pick and moves its start by k
 pub record Entry (p : Place) (k words : ℕ) : Type 0 where

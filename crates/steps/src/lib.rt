@@ -6,14 +6,12 @@ ghost use mathlib.Core.Path.{_≡_};
 ghost use mathlib.Core.Bool.{true, not, _&&_};
 ghost use Prim.Native.Nat.{_+_, _-_, _≤_, _<_};
 ghost use lib.ListN.{length};
-ghost use lib.Dec.{eqb};
 ghost use Rattle.model.specs.Journey.{val};
-ghost use Rattle.measures.specs.Kit.{either};
 ghost use Rattle.area.specs.Parts.{composeAt, copyAt, zeroAt};
 ghost use Rattle.steps.specs.Walk.{state, kitOf, ladder, rebuilt, joined, extended, entered, windowed, judged, tried, raised, again, climbed};
 ghost use Rattle.steps.specs.Alike.{finished};
 ghost use Rattle.steps.specs.Bare.{bareTried, spared, stepBy};
-ghost use Rattle.steps.specs.Fit.{Able, In, Lends, Owns, Fit, Entry, Takes, Does};
+ghost use Rattle.steps.specs.Fit.{Able, In, Lends, Owns, Fit, rise, Entry, Takes, Does};
 use model::Pick;
 use place::Place;
 
@@ -249,7 +247,7 @@ pub fn is_finished(p: Place) -> bool
 
 // What the start moves by at a new pick: one, under measure 1 once a test has failed, under the others after a test that passed.
 fn moved_by(p: Place) -> usize
-    ensures { λ r. ⌜ r ≡ val (either (eqb (p .measure) 1) (p .failed) (p .passed)) ⌝ }
+    ensures { λ r. ⌜ r ≡ rise p ⌝ }
 {
     if p.measure == 1 {
         return one_if(p.failed);
