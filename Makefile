@@ -15,7 +15,7 @@ SHARE = 40
 lib:
 	$(RT) staticlib nookmallow
 	mkdir -p $(OUT)
-	cp target/staticlib/libnookmallow.a include/nookmallow.h $(OUT)
+	cp target/staticlib/libnookmallow.a include/nookmallow.h include/nookmallow.rs $(OUT)
 
 examples: lib
 	mkdir -p target/examples

@@ -1,96 +1,10 @@
-// The Rust side of check-abi: the header's declarations again, as #[repr(C)] twins. `test` checks calls whose answers are known,
-// `test trace` prints the table that the C side prints too, from these declarations.
+// The Rust side of check-abi: `test` checks calls whose answers are known, `test trace` prints the table that the C side prints too, from the
+// declarations of include/nookmallow.rs.
+#[path = "../include/nookmallow.rs"]
+mod nookmallow;
+
+use nookmallow::{area_words, length, open, pick, read, table, whole, Answer, Handed, Measured, Place, Reading};
 use std::mem::{align_of, offset_of, size_of};
-
-#[repr(C)]
-#[derive(Clone, Copy, Debug, Default, PartialEq)]
-struct Place {
-    boards: u32,
-    measure: u32,
-    limit: u32,
-    taken: u32,
-    start: u32,
-    boundary: u32,
-    failed: u32,
-    passed: u32,
-    compositions: u32,
-    tests: u32,
-}
-
-#[repr(C)]
-#[derive(Clone, Copy, Debug, PartialEq)]
-struct Handed {
-    refusal: u32,
-    place: Place,
-}
-
-#[repr(C)]
-#[derive(Clone, Copy, Debug, PartialEq)]
-struct Answer {
-    refusal: u32,
-    length: u32,
-    compositions: u32,
-    tests: u32,
-}
-
-#[repr(C)]
-#[derive(Clone, Copy, Debug, PartialEq)]
-struct Measured {
-    refusal: u32,
-    length: u32,
-    compositions: u32,
-    tests: u32,
-    place: Place,
-}
-
-#[repr(C)]
-#[derive(Clone, Copy, Debug, PartialEq)]
-struct Reading {
-    refusal: u32,
-    boards: u32,
-    picks: u32,
-}
-
-#[link(name = "nookmallow", kind = "static")]
-extern "C" {
-    fn nookmallow_version() -> u32;
-    fn nookmallow_open(n: u32, measure: u32, limit: u32, footprint: *const u32, footprint_len: usize, area: *mut u32, area_len: usize) -> Handed;
-    fn nookmallow_pick(p: Place, area: *mut u32, area_len: usize, words: *const u32, words_len: usize) -> Handed;
-    fn nookmallow_length(p: Place) -> Measured;
-    fn nookmallow_whole(n: u32, measure: u32, words: *const u32, words_len: usize, area: *mut u32, area_len: usize) -> Answer;
-    fn nookmallow_table(n: u32, words: *const u32, words_len: usize, out: *mut u32, out_len: usize) -> u32;
-    fn nookmallow_read(bytes: *const u8, bytes_len: usize, limit: u32, out: *mut u32, out_len: usize) -> Reading;
-}
-
-// A slice is a pointer and a count. That a shared and an exclusive slice never overlap is what the header asks for.
-fn open(n: u32, measure: u32, limit: u32, footprint: &[u32], area: &mut [u32]) -> Handed {
-    unsafe { nookmallow_open(n, measure, limit, footprint.as_ptr(), footprint.len(), area.as_mut_ptr(), area.len()) }
-}
-
-fn pick(p: Place, area: &mut [u32], words: &[u32]) -> Handed {
-    unsafe { nookmallow_pick(p, area.as_mut_ptr(), area.len(), words.as_ptr(), words.len()) }
-}
-
-fn length(p: Place) -> Measured {
-    unsafe { nookmallow_length(p) }
-}
-
-fn whole(n: u32, measure: u32, words: &[u32], area: &mut [u32]) -> Answer {
-    unsafe { nookmallow_whole(n, measure, words.as_ptr(), words.len(), area.as_mut_ptr(), area.len()) }
-}
-
-fn table(n: u32, words: &[u32], out: &mut [u32]) -> u32 {
-    unsafe { nookmallow_table(n, words.as_ptr(), words.len(), out.as_mut_ptr(), out.len()) }
-}
-
-fn read(bytes: &[u8], limit: u32, out: &mut [u32]) -> Reading {
-    unsafe { nookmallow_read(bytes.as_ptr(), bytes.len(), limit, out.as_mut_ptr(), out.len()) }
-}
-
-fn area_words(n: u32, measure: u32, limit: u32) -> usize {
-    let (n, limit) = (n as usize, limit as usize);
-    (limit + 4) * if measure == 4 { 2 * n * n } else { n }
-}
 
 // ---- the table
 
@@ -126,7 +40,7 @@ fn layout() {
         offset_of!(Measured, compositions), offset_of!(Measured, tests), offset_of!(Measured, place)]);
     line("reading", &[size_of::<Reading>(), align_of::<Reading>(), offset_of!(Reading, refusal), offset_of!(Reading, boards),
         offset_of!(Reading, picks)]);
-    println!("version {}", unsafe { nookmallow_version() });
+    println!("version {}", nookmallow::version());
 }
 
 fn sum_of(words: &[u32]) -> u32 {

@@ -1,20 +1,14 @@
 // Times the archive against the walk in hand-written Rust on the same recordings, and compares all that both answer and leave.
 // `speed compare` compares; `speed times` and `speed growth` print a line for each case; `speed lengths` says what the recordings are like;
 // `speed SIDE MEASURE RECORDING MODE PICKS TURNS` runs one case alone, for callgrind. SIDE plain is Rust with plain folds under measure 4.
+#[path = "../include/nookmallow.rs"]
+mod nookmallow;
 mod walk;
 
+use nookmallow::{Answer, Handed, Measured, Place};
 use std::hint::black_box;
 use std::sync::atomic::Ordering;
 use std::time::Instant;
-use walk::{Answer, Handed, Measured, Place};
-
-#[link(name = "nookmallow", kind = "static")]
-extern "C" {
-    fn nookmallow_open(n: u32, measure: u32, limit: u32, list: *const u32, list_len: usize, area: *mut u32, area_len: usize) -> Handed;
-    fn nookmallow_pick(p: Place, area: *mut u32, area_len: usize, words: *const u32, words_len: usize) -> Handed;
-    fn nookmallow_length(p: Place) -> Measured;
-    fn nookmallow_whole(n: u32, measure: u32, words: *const u32, words_len: usize, area: *mut u32, area_len: usize) -> Answer;
-}
 
 #[derive(Clone, Copy, PartialEq)]
 enum Side {
@@ -25,28 +19,28 @@ enum Side {
 impl Side {
     fn open(self, n: u32, measure: u32, limit: u32, list: &[u32], area: &mut [u32]) -> Handed {
         match self {
-            Side::Archive => unsafe { nookmallow_open(n, measure, limit, list.as_ptr(), list.len(), area.as_mut_ptr(), area.len()) },
+            Side::Archive => nookmallow::open(n, measure, limit, list, area),
             Side::Rust => walk::open(n, measure, limit, list, area),
         }
     }
 
     fn pick(self, p: Place, area: &mut [u32], words: &[u32]) -> Handed {
         match self {
-            Side::Archive => unsafe { nookmallow_pick(p, area.as_mut_ptr(), area.len(), words.as_ptr(), words.len()) },
+            Side::Archive => nookmallow::pick(p, area, words),
             Side::Rust => walk::pick(p, area, words),
         }
     }
 
     fn length(self, p: Place) -> Measured {
         match self {
-            Side::Archive => unsafe { nookmallow_length(p) },
+            Side::Archive => nookmallow::length(p),
             Side::Rust => walk::length(p),
         }
     }
 
     fn whole(self, n: u32, measure: u32, words: &[u32], area: &mut [u32]) -> Answer {
         match self {
-            Side::Archive => unsafe { nookmallow_whole(n, measure, words.as_ptr(), words.len(), area.as_mut_ptr(), area.len()) },
+            Side::Archive => nookmallow::whole(n, measure, words, area),
             Side::Rust => walk::whole(n, measure, words, area),
         }
     }
@@ -129,7 +123,8 @@ fn by_picks(side: Side, n: usize, measure: u32, words: &[u32], list: &[u32], are
     let mut last = Answer::default();
     for pick in words.chunks(n) {
         p = side.pick(p, area, black_box(pick)).place;
-        last = side.length(p).answer;
+        let Measured { refusal, length, compositions, tests, .. } = side.length(p);
+        last = Answer { refusal, length, compositions, tests };
         sum = sum.wrapping_mul(31).wrapping_add(u64::from(last.length + 7 * last.refusal + 13 * last.compositions + 17 * last.tests));
     }
     (last, sum)
@@ -298,7 +293,7 @@ fn compare_refusals() {
         assert_eq!(got, Side::Rust.pick(p, &mut b, pick), "{p:?}");
         assert!(a == b && (got.refusal == 0 || a.iter().all(|w| *w == 0)));
         seen[got.refusal as usize] = true;
-        seen[Side::Archive.length(p).answer.refusal as usize] = true;
+        seen[Side::Archive.length(p).refusal as usize] = true;
     }
     // all causes but those of recording files
     assert!((0..17).all(|cause| seen[cause] || (11..16).contains(&cause)), "{seen:?}");

@@ -8,45 +8,8 @@
 // - a whole run leaves its area zero, so it writes no part that only a later call could look at, and its tests end at the first row
 //   that fails;
 // - a composition of times folds the later rows once for each distinct set of boards that a row of the earlier part reaches.
+use crate::nookmallow::{Answer, Handed, Measured, Place};
 use std::sync::atomic::{AtomicBool, Ordering};
-
-#[repr(C)]
-#[derive(Clone, Copy, Default, PartialEq, Eq, Debug)]
-pub struct Place {
-    pub boards: u32,
-    pub measure: u32,
-    pub limit: u32,
-    pub taken: u32,
-    pub start: u32,
-    pub boundary: u32,
-    pub failed: u32,
-    pub passed: u32,
-    pub compositions: u32,
-    pub tests: u32,
-}
-
-#[repr(C)]
-#[derive(Clone, Copy, Default, PartialEq, Eq, Debug)]
-pub struct Handed {
-    pub refusal: u32,
-    pub place: Place,
-}
-
-#[repr(C)]
-#[derive(Clone, Copy, Default, PartialEq, Eq, Debug)]
-pub struct Answer {
-    pub refusal: u32,
-    pub length: u32,
-    pub compositions: u32,
-    pub tests: u32,
-}
-
-#[repr(C)]
-#[derive(Clone, Copy, Default, PartialEq, Eq, Debug)]
-pub struct Measured {
-    pub answer: Answer,
-    pub place: Place,
-}
 
 // ---- checks
 
@@ -577,7 +540,8 @@ pub fn length(p: Place) -> Measured {
     } else {
         report(&p)
     };
-    Measured { answer, place: p }
+    let Answer { refusal, length, compositions, tests } = answer;
+    Measured { refusal, length, compositions, tests, place: p }
 }
 
 fn run<const M: u32>(p: &mut Place, area: &mut [u32], words: &[u32], n: usize) {

@@ -1,144 +1,97 @@
 // The controller of controller.c in Rust, over a safe wrapper: `Walk` owns its area and its place, so that the two stay together and
 // nothing that is read overlaps what is written.
-mod nookmallow {
-    use std::fmt;
+#[path = "../include/nookmallow.rs"]
+mod nookmallow;
 
-    #[repr(C)]
-    #[derive(Clone, Copy, Debug, PartialEq, Eq)]
-    pub struct Place {
-        pub boards: u32,
-        pub measure: u32,
-        pub limit: u32,
-        pub taken: u32,
-        pub start: u32,
-        pub boundary: u32,
-        pub failed: u32,
-        pub passed: u32,
-        pub compositions: u32,
-        pub tests: u32,
-    }
+use nookmallow::Place;
+use std::fmt;
 
-    #[repr(C)]
-    struct Handed {
-        refusal: u32,
-        place: Place,
-    }
+const REACH: u32 = 3;
 
-    #[repr(C)]
-    struct Measured {
-        refusal: u32,
-        length: u32,
-        compositions: u32,
-        tests: u32,
-        place: Place,
-    }
+// The number of a refusal, 1 to 16, with what to do about it.
+#[derive(Clone, Copy, Debug, PartialEq, Eq)]
+struct Refusal(u32);
 
-    #[link(name = "nookmallow", kind = "static")]
-    extern "C" {
-        fn nookmallow_version() -> u32;
-        fn nookmallow_open(n: u32, measure: u32, limit: u32, footprint: *const u32, footprint_len: usize, area: *mut u32, area_len: usize) -> Handed;
-        fn nookmallow_pick(p: Place, area: *mut u32, area_len: usize, words: *const u32, words_len: usize) -> Handed;
-        fn nookmallow_length(p: Place) -> Measured;
-    }
-
-    pub const REACH: u32 = 3;
-
-    // The number of a refusal, 1 to 16, with what to do about it.
-    #[derive(Clone, Copy, Debug, PartialEq, Eq)]
-    pub struct Refusal(pub u32);
-
-    impl fmt::Display for Refusal {
-        fn fmt(&self, f: &mut fmt::Formatter<'_>) -> fmt::Result {
-            let remedy = match self.0 {
-                1 => "boards not 2 to 32: correct the setup",
-                2 => "no such measure: correct the setup",
-                3 => "limit not 1 to 4096: correct the setup",
-                4 => "area too short: lend as many words as the macro says",
-                5 => "a forbidden bit: read the boards again",
-                6 => "a link outside the list: open again with a new list",
-                7 => "limit reached: open again, with a greater limit if need be",
-                8 => "no pick yet: go on, without a wait",
-                9 => "no length so far: go on, without a wait",
-                10 => "not a word for each board: read the boards again",
-                16 => "place damaged: open again, from pick 1",
-                _ => "not a refusal of these calls",
-            };
-            write!(f, "refusal {}: {}", self.0, remedy)
-        }
-    }
-
-    fn answer<T>(refusal: u32, good: T) -> Result<T, Refusal> {
-        if refusal == 0 { Ok(good) } else { Err(Refusal(refusal)) }
-    }
-
-    // A length with the two counts.
-    #[derive(Clone, Copy, Debug, PartialEq, Eq)]
-    pub struct Length {
-        pub picks: u32,
-        pub compositions: u32,
-        pub tests: u32,
-    }
-
-    // What has to come through a stop.
-    pub struct Stored {
-        pub version: u32,
-        pub place: Place,
-        pub area: Vec<u32>,
-    }
-
-    pub struct Walk {
-        place: Place,
-        area: Vec<u32>,
-    }
-
-    impl Walk {
-        // The words of the area; none where n or limit is out of range, which the opening refuses before it looks at the area.
-        fn area_words(n: u32, measure: u32, limit: u32) -> usize {
-            let (n, limit) = (n as usize, limit as usize);
-            if n > 32 || limit > 4096 {
-                return 0;
-            }
-            (limit + 4) * if measure == 4 { 2 * n * n } else { n }
-        }
-
-        pub fn open(n: u32, measure: u32, limit: u32, footprint: &[u32]) -> Result<Walk, Refusal> {
-            let mut area = vec![0; Walk::area_words(n, measure, limit)];
-            let h = unsafe { nookmallow_open(n, measure, limit, footprint.as_ptr(), footprint.len(), area.as_mut_ptr(), area.len()) };
-            answer(h.refusal, Walk { place: h.place, area })
-        }
-
-        // A refused pick changes nothing, so it may be put right and handed over again.
-        pub fn pick(&mut self, words: &[u32]) -> Result<(), Refusal> {
-            let h = unsafe { nookmallow_pick(self.place, self.area.as_mut_ptr(), self.area.len(), words.as_ptr(), words.len()) };
-            self.place = h.place;
-            answer(h.refusal, ())
-        }
-
-        pub fn length(&self) -> Result<Length, Refusal> {
-            let r = unsafe { nookmallow_length(self.place) };
-            debug_assert_eq!(r.place, self.place);
-            answer(r.refusal, Length { picks: r.length, compositions: r.compositions, tests: r.tests })
-        }
-
-        pub fn taken(&self) -> u32 {
-            self.place.taken
-        }
-
-        pub fn stop(self) -> Stored {
-            Stored { version: unsafe { nookmallow_version() }, place: self.place, area: self.area }
-        }
-
-        // None where another version stored it: the picks have to be taken again from pick 1.
-        pub fn start(stored: Stored) -> Option<Walk> {
-            if stored.version != unsafe { nookmallow_version() } {
-                return None;
-            }
-            Some(Walk { place: stored.place, area: stored.area })
-        }
+impl fmt::Display for Refusal {
+    fn fmt(&self, f: &mut fmt::Formatter<'_>) -> fmt::Result {
+        let remedy = match self.0 {
+            1 => "boards not 2 to 32: correct the setup",
+            2 => "no such measure: correct the setup",
+            3 => "limit not 1 to 4096: correct the setup",
+            4 => "area too short: lend as many words as the macro says",
+            5 => "a forbidden bit: read the boards again",
+            6 => "a link outside the list: open again with a new list",
+            7 => "limit reached: open again, with a greater limit if need be",
+            8 => "no pick yet: go on, without a wait",
+            9 => "no length so far: go on, without a wait",
+            10 => "not a word for each board: read the boards again",
+            16 => "place damaged: open again, from pick 1",
+            _ => "not a refusal of these calls",
+        };
+        write!(f, "refusal {}: {}", self.0, remedy)
     }
 }
 
-use nookmallow::{Refusal, Stored, Walk, REACH};
+fn answer<T>(refusal: u32, good: T) -> Result<T, Refusal> {
+    if refusal == 0 { Ok(good) } else { Err(Refusal(refusal)) }
+}
+
+// A length with the two counts.
+#[derive(Clone, Copy, Debug, PartialEq, Eq)]
+struct Length {
+    picks: u32,
+    compositions: u32,
+    tests: u32,
+}
+
+// What has to come through a stop.
+struct Stored {
+    version: u32,
+    place: Place,
+    area: Vec<u32>,
+}
+
+struct Walk {
+    place: Place,
+    area: Vec<u32>,
+}
+
+impl Walk {
+    fn open(n: u32, measure: u32, limit: u32, footprint: &[u32]) -> Result<Walk, Refusal> {
+        let mut area = vec![0; nookmallow::area_words(n, measure, limit)];
+        let h = nookmallow::open(n, measure, limit, footprint, &mut area);
+        answer(h.refusal, Walk { place: h.place, area })
+    }
+
+    // A refused pick changes nothing, so it may be put right and handed over again.
+    fn pick(&mut self, words: &[u32]) -> Result<(), Refusal> {
+        let h = nookmallow::pick(self.place, &mut self.area, words);
+        self.place = h.place;
+        answer(h.refusal, ())
+    }
+
+    fn length(&self) -> Result<Length, Refusal> {
+        let r = nookmallow::length(self.place);
+        debug_assert_eq!(r.place, self.place);
+        answer(r.refusal, Length { picks: r.length, compositions: r.compositions, tests: r.tests })
+    }
+
+    fn taken(&self) -> u32 {
+        self.place.taken
+    }
+
+    fn stop(self) -> Stored {
+        Stored { version: nookmallow::version(), place: self.place, area: self.area }
+    }
+
+    // None where another version stored it: the picks have to be taken again from pick 1.
+    fn start(stored: Stored) -> Option<Walk> {
+        if stored.version != nookmallow::version() {
+            return None;
+        }
+        Some(Walk { place: stored.place, area: stored.area })
+    }
+}
 
 // Takes a pick; the wait is its length, and there is none without one.
 fn weave(walk: &mut Walk, words: &[u32]) -> Result<u32, Refusal> {
@@ -172,7 +125,7 @@ fn main() -> Result<(), Refusal> {
     }
     // A damaged place is refused, never trusted.
     let stored = walk.stop();
-    let place = nookmallow::Place { start: 99, ..stored.place };
+    let place = Place { start: 99, ..stored.place };
     let Some(mut walk) = Walk::start(Stored { place, ..stored }) else { return Ok(()) };
     if let Err(refusal) = weave(&mut walk, &woven[0]) {
         println!("damaged, {}", refusal);

@@ -1,40 +1,41 @@
 -- The tender, stated once, to be read: each sentence of its conditions, and of 01's "Conditions for taking delivery", with the statement that says it.
+-- Each statement is a type; `proofs/` has, in the module of the same name, the proof of each.
 --
 -- CONDITION 1
 --   "Every answer is .. or one of the numbered refusals of document 01, for all input whatsoever": the contracts of the calls, none with a `requires`,
---       are equations with definitions that are total. Which numbers a call gives: Condition1.opening-numbers, pick-numbers, length-numbers, whole-numbers,
---       table-numbers, reading-numbers. Exactly when none of them comes: Condition1.opening-exactly, pick-exactly, whole-exactly, table-exactly,
---       reading-exactly; of the length call length-sixteen, length-eight. Which cause has which number, and which of several is named, is read off the
+--       are equations with definitions that are total. Which numbers a call gives: Condition1.OpeningNumbers, PickNumbers, LengthNumbers, WholeNumbers,
+--       TableNumbers, ReadingNumbers. Exactly when none of them comes: Condition1.OpeningExactly, PickExactly, WholeExactly, TableExactly,
+--       ReadingExactly; of the length call LengthSixteen, LengthEight. Which cause has which number, and which of several is named, is read off the
 --       definitions, in 01's order: `verdicts/specs/Verdicts`, `calls/specs/Calls.lengthSays`, `reach/specs/Tables`, `commands/specs`
 --   "and it always comes": every function is proved to end
---   "A refused pick changes neither the place record nor the work area": Condition1.pick-refused; the other calls: opening-refused, whole-refused,
---       table-refused, reading-refused
+--   "A refused pick changes neither the place record nor the work area": Condition1.PickRefused; the other calls: OpeningRefused, WholeRefused,
+--       TableRefused, ReadingRefused
 -- CONDITION 2
 --   "After each pick taken .. each length equals the definition .. over all windows of the picks so far, .. and refusal 9 comes only when no such length
---       exists": Condition2.pick-by-pick; that there are such picks: Condition1.what-fits-is-taken; picks, refused picks and length calls in any order:
---       Condition2.in-any-order
+--       exists": Condition2.PickByPick; that there are such picks: Condition1.WhatFitsIsTaken; picks, refused picks and length calls in any order:
+--       Condition2.InAnyOrder
 --   "a length being from 1 to their number and document 01's link list serving as the footprint": `model/specs/Length` (low, high), `law/specs/Correct.Passes`
 --       over the list that was handed over or, in a whole run, over the union of all picks (`law/specs/Claim2.Ran .footprint`)
---   "and at the end of each whole-recording run": Condition2.whole-runs; in whatever area: Area.any-area
---   "the table of reach marks exactly the pairs joined by a journey": Condition2.table, table-words
+--   "and at the end of each whole-recording run": Condition2.WholeRuns; in whatever area: Area.AnyArea
+--   "the table of reach marks exactly the pairs joined by a journey": Condition2.TableMarks, TableRest
 --   "provided, pick by pick, that record and area come back as the last call left them": `after` of `law/specs/Claim2`, and the events of
---       `numbers/specs/Events`, hand each call what the last one left; stopped and started at any pick: Condition2.stop-and-start
---   "Compositions and tests are those of the walk in document 01": Condition2.counts-pick-by-pick, counts-whole
---   "at most 4(m - 1) and 2m for m picks": Condition2.pick-by-pick-bounded, whole-runs-bounded
+--       `numbers/specs/Events`, hand each call what the last one left; stopped and started at any pick: Condition2.StopAndStart
+--   "Compositions and tests are those of the walk in document 01": Condition2.CountsPickByPick, CountsWhole
+--   "at most 4(m - 1) and 2m for m picks": Condition2.PickByPickBounded, WholeRunsBounded
 -- CONDITION 3
---   Condition3.condition-3, both ways
+--   Condition3.Condition3, both ways
 --
 -- 01, CONDITIONS FOR TAKING DELIVERY
 --   1, a promise for each input on result, place and each lent word: the contracts, equations with `calls/specs/Calls`, `reach/specs/Tables` and
 --       `recording/specs/Answers`, of which everything here speaks; what each part of the area holds, and which words are written and read at all: Area;
---       what is read of a file: Condition1.reading-as-written
---   2, versions that must be rejected: "right in its first window": Condition2.pick-by-pick, for every pick; "invented counts": Condition2.counts-pick-by-pick,
---       counts-whole; "9 before a pick is looked at": Condition2.in-any-order (8 while none is taken) and whole-runs; "one fixed length or one fixed
---       table": Condition2.pick-by-pick, whole-runs, table; "leaves its area idle": Area.each-part; "number 4 for everyone": Condition1.opening-exactly and
+--       what is read of a file: Condition1.ReadingAsWritten
+--   2, versions that must be rejected: "right in its first window": Condition2.PickByPick, for every pick; "invented counts": Condition2.CountsPickByPick,
+--       CountsWhole; "9 before a pick is looked at": Condition2.InAnyOrder (8 while none is taken) and WholeRuns; "one fixed length or one fixed
+--       table": Condition2.PickByPick, WholeRuns, TableMarks; "leaves its area idle": Area.EachPart; "number 4 for everyone": Condition1.OpeningExactly and
 --       the other four. docs/CLAIMS.md names the edit of each
---   3, the ten cases: Cases.cases, cases-anywhere, cases-right
+--   3, the ten cases: Cases.CasesAnswered, CasesAnywhere, CasesRight
 --   4, facts shared by the measures with the composition as a parameter: `law/specs/Faithful`, `Ladders`, `MinWalk`, `MaxWalk`, over any kit
---   5, condition 3 is there: Condition3.condition-3
+--   5, condition 3 is there: Condition3.Condition3
 pub mod Condition1
 pub mod Condition2
 pub mod Condition3

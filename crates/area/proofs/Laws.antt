@@ -1,23 +1,24 @@
 -- What a part holds after one is written: the part written, and every other one, and the words beyond, as they were. The area has room for
 -- N parts of E words. Assumes nothing.
-use mathlib.Core.Path.{_≡_, sym, ap, ap₂, _∙_}
+use mathlib.Core.Path.{_≡_, ap, ap₂, _∙_}
 use mathlib.Core.Logic.{_≢_, ⊎-elim}
-use mathlib.Core.Bool.{Bool, true, false}
-use mathlib.Core.List.{List, _++_, append-assoc}
-use Prim.Native.Nat.{ℕ, _+_, _-_, _*_, _≤_, _<_}
+use mathlib.Core.Bool.{Bool, true, false, cond}
+use mathlib.Core.List.{List}
+use Prim.Native.Nat.{ℕ, _+_, _-_, _*_, _≤_, _<_, zero-le}
 use native.Mathlib.Nat.{mul-le-mul-right}
 use native.Mathlib.Omega.{arith}
 use lib.Dec.{eqb}
-use lib.ListN.{length, take, drop, length-append, length-drop, take-append-drop, replicate-append-replicate}
-use lib.Seq.{take-at, drop-at, length-take-le, take-append-le, drop-append-le, drop-append-add, drop-drop}
+use lib.ListN.{length, take, drop, length-append}
 use Rattle.model.proofs.Logic.{le-or-lt}
-use Rattle.lists.specs.Tab.{zeros}
+use Rattle.lists.specs.Tab.{zeros, splice}
+use Rattle.lists.proofs.Splice.{read-front, read-before, read-inside, splice-length, splice-after, splice-again}
+use Rattle.lists.proofs.Zeros.{zeros-inside}
 use Rattle.lists.proofs.Tab.{length-tab, length-zeros}
 use Rattle.links.specs.Tables.{intersection, union, compose, within}
 use Rattle.links.proofs.Ways.{length-within}
 use Rattle.times.specs.Times.{composeTimes, arrivals, departures, ownTimes}
 use Rattle.times.proofs.Cells.{length-rows}
-use Rattle.measures.specs.Kit.{Kit, kit, either, widthOf, ownOf, joinOf}
+use Rattle.measures.specs.Kit.{Kit, kit, widthOf, ownOf, joinOf}
 use Rattle.area.specs.Parts.{Has, part, putPart, composeAt, copyAt, zeroAt, ownAt, zeroed}
 use Rattle.area.proofs.Lent.{fits, part-long}
 
@@ -33,112 +34,50 @@ apart : (E i j : ℕ) → 1 ≤ i → i < j → (i - 1) * E + E ≤ (j - 1) * E
 apart E i j low h =
     let p : Has E ((j - 1) * E) i = has E (j - 1) ((j - 1) * E) i (omega arith) low (omega arith) in fits p
 
--- what is read from the front of a list does not see its end
-front : (p q : List ℕ) (k n : ℕ) → k + n ≤ length p → take n (drop k (p ++ q)) ≡ take n (drop k p)
-front p q k n h =
-    let l : k ≤ length p = omega arith in
-    let r : n ≤ length (drop k p) = omega (arith, length-drop k p) in
-    rw (drop-append-le k p q l) (take-append-le n (drop k p) q r)
-
--- ---- E words put at word `at`
-
-module _ (E at : ℕ) (a t : List ℕ) (size : length t ≡ E) (room : at + E ≤ length a) where
-  head-long : length (take at a) ≡ at
-  head-long = length-take-le at a (omega arith)
-
-  front-long : length (take at a ++ t) ≡ at + E
-  front-long = length-append (take at a) t ∙ rw (head-long, size)
-
-  words-length : length (take at a ++ (t ++ drop E (drop at a))) ≡ length a
-  words-length =
-      omega (arith, length-append (take at a) (t ++ drop E (drop at a)), length-append t (drop E (drop at a)), length-drop E (drop at a), length-drop at a, head-long, size)
-
-  words-same : take E (drop at (take at a ++ (t ++ drop E (drop at a)))) ≡ t
-  words-same = rw (drop-at (take at a) (t ++ drop E (drop at a)) at head-long) (take-at t _ E size)
-
-  words-before : (k : ℕ) → k + E ≤ at → take E (drop k (take at a ++ (t ++ drop E (drop at a)))) ≡ take E (drop k a)
-  words-before k h =
-      let l : k + E ≤ length (take at a) = omega (arith, head-long) in
-      front (take at a) _ k E l
-      ∙ sym (front (take at a) (drop at a) k E l)
-      ∙ ap (λ (b : List ℕ). take E (drop k b)) (take-append-drop at a)
-
-  words-after : (k : ℕ) → at + E ≤ k → drop k (take at a ++ (t ++ drop E (drop at a))) ≡ drop k a
-  words-after k h =
-      let d : ℕ = k - (at + E) in
-      let e : k ≡ length (take at a ++ t) + d = omega (arith, front-long) in
-      let f : at + E + d ≡ k = omega arith in
-      ap (λ (b : List ℕ). drop k b) (sym (append-assoc (take at a) t (drop E (drop at a))))
-      ∙ ap (λ (m : ℕ). drop m (take at a ++ t ++ drop E (drop at a))) e
-      ∙ drop-append-add (take at a ++ t) (drop E (drop at a)) d
-      ∙ ap (drop d) (drop-drop E at a)
-      ∙ drop-drop d (at + E) a
-      ∙ ap (λ (m : ℕ). drop m a) f
-
-  -- other words put at the same place
-  words-again : (u : List ℕ)
-      → take at (take at a ++ (t ++ drop E (drop at a))) ++ (u ++ drop E (drop at (take at a ++ (t ++ drop E (drop at a))))) ≡ take at a ++ (u ++ drop E (drop at a))
-  words-again u = rw (take-at (take at a) (t ++ drop E (drop at a)) at head-long, drop-at (take at a) (t ++ drop E (drop at a)) at head-long, drop-at t (drop E (drop at a)) E size)
-
 -- ---- a table put as a part
 
 module _ (E N : ℕ) (a : List ℕ) (room : N * E ≤ length a) (i : ℕ) (low : 1 ≤ i) (high : i ≤ N) (t : List ℕ) (size : length t ≡ E) where
   lies : (i - 1) * E + E ≤ length a
   lies = fits (has E N (length a) i room low high)
 
+  begins : (i - 1) * E ≤ length a
+  begins = let h = lies in omega arith
+
   pub put-length : length (putPart E a i t) ≡ length a
-  unfolding putPart
-  put-length = words-length E ((i - 1) * E) a t size lies
+  put-length = splice-length ((i - 1) * E) E t a size begins lies
 
   pub put-same : part E (putPart E a i t) i ≡ t
-  unfolding part putPart
-  put-same = words-same E ((i - 1) * E) a t size lies
+  unfolding part
+  put-same = read-inside ((i - 1) * E) E t a size begins
 
   -- part j may lie beyond the area
   pub put-other : (j : ℕ) → 1 ≤ j → j ≢ i → part E (putPart E a i t) j ≡ part E a j
-  unfolding part putPart
+  unfolding part
   put-other j h ne =
-      ⊎-elim (λ (l : i ≤ j). ap (take E) (words-after E ((i - 1) * E) a t size lies ((j - 1) * E) (apart E i j low (omega arith))))
-      (λ (l : j < i). words-before E ((i - 1) * E) a t size lies ((j - 1) * E) (apart E j i h l))
+      ⊎-elim (λ (l : i ≤ j). ap (take E) (splice-after ((i - 1) * E) E t a size begins ((j - 1) * E) (apart E i j low (omega arith))))
+      (λ (l : j < i). read-before ((i - 1) * E) E t a size begins ((j - 1) * E) E (apart E j i h l))
       (le-or-lt i j)
 
-  pub put-again : (u : List ℕ) → putPart E (putPart E a i t) i u ≡ putPart E a i u
-  unfolding putPart
-  put-again u = words-again E ((i - 1) * E) a t size lies u
+  put-again : (u : List ℕ) → putPart E (putPart E a i t) i u ≡ putPart E a i u
+  put-again = splice-again ((i - 1) * E) E t a size begins
 
   pub put-beyond : drop (N * E) (putPart E a i t) ≡ drop (N * E) a
-  unfolding putPart
-  put-beyond = words-after E ((i - 1) * E) a t size lies (N * E) (fits (has E N (N * E) i (omega arith) low high))
+  put-beyond = splice-after ((i - 1) * E) E t a size begins (N * E) (fits (has E N (N * E) i (omega arith) low high))
 
 -- ---- the first words zero
 
 module _ (k : ℕ) (a : List ℕ) (room : k ≤ length a) where
   pub zeroed-length : length (zeroed k a) ≡ length a
-  unfolding zeroed
-  zeroed-length = omega (arith, length-append (zeros k) (drop k a), length-zeros k, length-drop k a)
+  zeroed-length = splice-length 0 k (zeros k) a (length-zeros k) zero-le (omega arith)
 
   pub zeroed-beyond : drop k (zeroed k a) ≡ drop k a
-  unfolding zeroed
-  zeroed-beyond = drop-at (zeros k) (drop k a) k (length-zeros k)
-
-zeros-add : (k m : ℕ) → zeros (k + m) ≡ zeros k ++ zeros m
-unfolding zeros
-zeros-add k m = sym (replicate-append-replicate k m 0)
-
--- zeros among zeros
-inner : (k m n : ℕ) → k + m ≤ n → take m (drop k (zeros n)) ≡ zeros m
-inner k m n h =
-    let e : n ≡ k + (m + (n - (k + m))) = omega arith in
-    ap (λ (x : ℕ). take m (drop k (zeros x))) e
-    ∙ ap (λ (b : List ℕ). take m (drop k b)) (zeros-add k (m + (n - (k + m))))
-    ∙ ap (take m) (drop-at (zeros k) (zeros (m + (n - (k + m)))) k (length-zeros k) ∙ zeros-add m (n - (k + m)))
-    ∙ take-at (zeros m) (zeros (n - (k + m))) m (length-zeros m)
+  zeroed-beyond = splice-after 0 k (zeros k) a (length-zeros k) zero-le k (omega arith)
 
 pub zeroed-part : (E N : ℕ) (a : List ℕ) (i : ℕ) → 1 ≤ i → i ≤ N → part E (zeroed (N * E) a) i ≡ zeros E
-unfolding part zeroed
+unfolding part splice
 zeroed-part E N a i low high =
     let l : (i - 1) * E + E ≤ N * E = fits (has E N (N * E) i (omega arith) low high) in
-    front (zeros (N * E)) (drop (N * E) a) ((i - 1) * E) E (omega (arith, length-zeros (N * E))) ∙ inner ((i - 1) * E) E (N * E) l
+    read-front (zeros (N * E)) (drop (N * E) a) ((i - 1) * E) E (omega (arith, length-zeros (N * E))) ∙ zeros-inside ((i - 1) * E) E (N * E) l
 
 -- ---- tables of a measure have E words
 
@@ -159,7 +98,7 @@ unfolding intersection
 common-wide n s t = length-tab _ n
 
 joined : (four three two : Bool) (n : ℕ) (s t : List ℕ)
-    → length (either four (composeTimes n s t) (either three (compose n s t) (either two (union n s t) (intersection n s t)))) ≡ either four (n * n + n * n) n
+    → length (cond four (composeTimes n s t) (cond three (compose n s t) (cond two (union n s t) (intersection n s t)))) ≡ cond four (n * n + n * n) n
 joined true three two n s t = times-wide n s t
 joined false true two n s t = links-wide n s t
 joined false false true n s t = union-wide n s t
@@ -173,7 +112,8 @@ own-times-wide : (n i : ℕ) (w : List ℕ) → length (ownTimes n i w) ≡ n * 
 unfolding ownTimes
 own-times-wide n i w = simp (length-append, length-rows)
 
-owned : (four three : Bool) (n i : ℕ) (p w : List ℕ) → length p ≡ n → length w ≡ n → length (either four (ownTimes n i p) (either three p w)) ≡ either four (n * n + n * n) n
+owned : (four three : Bool) (n i : ℕ) (p w : List ℕ) → length p ≡ n → length w ≡ n
+    → length (cond four (ownTimes n i p) (cond three p w)) ≡ cond four (n * n + n * n) n
 owned true three n i p w e f = own-times-wide n i p
 owned false true n i p w e f = e
 owned false false n i p w e f = f
@@ -233,7 +173,8 @@ module _ (K : Kit) (N : ℕ) (a : List ℕ) (room : N * K .width ≤ length a) (
     -- a part composed onto a copy
     pub compose-copied : (r : ℕ) → 1 ≤ r → r ≢ d → composeAt K (copyAt K a d l) d d r ≡ composeAt K a d l r
     unfolding composeAt
-    compose-copied r rlow ne = ap₂ (λ (s t : List ℕ). putPart (K .width) (copyAt K a d l) d (K .join s t)) copy-same (copy-other r rlow ne) ∙ copy-again _
+    compose-copied r rlow ne = ap₂ (λ (s t : List ℕ). putPart (K .width) (copyAt K a d l) d (K .join s t)) copy-same (copy-other r rlow ne)
+        ∙ copy-again _
 
   pub zero-length : length (zeroAt K a d) ≡ length a
   unfolding zeroAt

@@ -58,7 +58,8 @@ pub onto-links : (measure n : ℕ) (a : List ℕ) (d r : ℕ) → measure ≢ 4
 unfolding composeAt
 onto-links measure n a d r f = rw (width-links measure n f)
 
-pub onto-reach : (measure n : ℕ) (a : List ℕ) (d r : ℕ) → measure ≡ 3 → putPart n a d (compose n (part n a d) (part n a r)) ≡ composeAt (kit measure n) a d d r
+pub onto-reach : (measure n : ℕ) (a : List ℕ) (d r : ℕ) → measure ≡ 3 → putPart n a d (compose n (part n a d) (part n a r))
+    ≡ composeAt (kit measure n) a d d r
 onto-reach measure n a d r e = ap (putPart n a d) (join-reach measure n _ _ e) ∙ onto-links measure n a d r (λ f. omega arith)
 
 pub onto-times : (measure n : ℕ) (a : List ℕ) (d r : ℕ) → measure ≡ 4
@@ -67,7 +68,8 @@ unfolding composeAt
 onto-times measure n a d r e = rw (width-times measure n e) (ap (putPart (n * n + n * n) a d) (join-times measure n _ _ e))
 
 -- the later part is the own table of a pick, and that its words
-pub onto-own : (measure n : ℕ) (a : List ℕ) (d r : ℕ) (w : List ℕ) → measure ≢ 4 → measure ≢ 3 → part (widthOf measure n) a r ≡ ownOf 31 measure n r w
+pub onto-own : (measure n : ℕ) (a : List ℕ) (d r : ℕ) (w : List ℕ) → measure ≢ 4 → measure ≢ 3
+    → part (widthOf measure n) a r ≡ ownOf 31 measure n r w
     → putPart n a d (joinOf measure n (part n a d) w) ≡ composeAt (kit measure n) a d d r
 onto-own measure n a d r w f g e =
     let q : w ≡ part n a r = sym (own-words measure n r w f g) ∙ sym e ∙ ap (λ (k : ℕ). part k a r) (width-links measure n f) in

@@ -1,8 +1,8 @@
 -- Parts of a lent area: part i of document 01, of E words, begins at word (i - 1) × E. What is written is one table, into its own part.
-use mathlib.Core.List.{List, _++_}
+use mathlib.Core.List.{List}
 use Prim.Native.Nat.{ℕ, _-_, _*_, _≤_}
 use lib.ListN.{take, drop}
-use Rattle.lists.specs.Tab.{zeros}
+use Rattle.lists.specs.Tab.{zeros, splice}
 use Rattle.measures.specs.Kit.{Kit}
 
 -- part i lies in an area of `words` words
@@ -15,8 +15,8 @@ unfoldable pub part : ℕ → List ℕ → ℕ → List ℕ
 part E a i = take E (drop ((i - 1) * E) a)
 
 -- the area with the table t, of E words, as its part i
-unfoldable pub putPart : ℕ → List ℕ → ℕ → List ℕ → List ℕ
-putPart E a i t = take ((i - 1) * E) a ++ (t ++ drop E (drop ((i - 1) * E) a))
+abbrev pub putPart : ℕ → List ℕ → ℕ → List ℕ → List ℕ
+putPart E a i t = splice ((i - 1) * E) E t a
 
 -- parts l and r composed into part d
 unfoldable pub composeAt : Kit → List ℕ → ℕ → ℕ → ℕ → List ℕ
@@ -35,5 +35,5 @@ unfoldable pub ownAt : Kit → List ℕ → ℕ → List ℕ → List ℕ
 ownAt K a i w = putPart (K .width) a i (K .own i w)
 
 -- the first k words zero
-unfoldable pub zeroed : ℕ → List ℕ → List ℕ
-zeroed k a = zeros k ++ drop k a
+abbrev pub zeroed : ℕ → List ℕ → List ℕ
+zeroed k a = splice 0 k (zeros k) a

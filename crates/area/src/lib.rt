@@ -80,7 +80,8 @@ fn compose_links(area: &mut [u32], right: &mut [u32], n: usize, d: usize, r: usi
 // The same under measure 4.
 fn compose_times(area: &mut [u32], right: &mut [u32], n: usize, d: usize, r: usize)
     requires { ⌜ (n ≤ 32) × (n * n + n * n ≡ length (now right)) × Has (n * n + n * n) (length (now area)) d × Has (n * n + n * n) (length (now area)) r ⌝ }
-    ensures { λ _. ⌜ now (area .exit) ≡ putPart (n * n + n * n) (now (area .entry)) d (composeTimes n (part (n * n + n * n) (now (area .entry)) d) (part (n * n + n * n) (now (area .entry)) r)) ⌝ }
+    ensures { λ _. ⌜ now (area .exit)
+        ≡ putPart (n * n + n * n) (now (area .entry)) d (composeTimes n (part (n * n + n * n) (now (area .entry)) d) (part (n * n + n * n) (now (area .entry)) r)) ⌝ }
 {
     let e = n * n + n * n;
     take_part(right, area, e, r);
@@ -97,7 +98,8 @@ pub fn compose_onto(
     d: usize,
     r: usize,
 )
-    requires { ⌜ (n ≤ 32) × (widthOf measure n ≡ length (now right)) × Has (widthOf measure n) (length (now area)) d × Has (widthOf measure n) (length (now area)) r ⌝ }
+    requires { ⌜ (n ≤ 32) × (widthOf measure n ≡ length (now right))
+        × Has (widthOf measure n) (length (now area)) d × Has (widthOf measure n) (length (now area)) r ⌝ }
     ensures { λ _. ⌜ now (area .exit) ≡ composeAt (kit measure n) (now (area .entry)) d d r ⌝ }
 {
     if measure == 4 {
@@ -121,7 +123,9 @@ pub fn compose_own(
     d: usize,
     r: usize,
 )
-    requires { ⌜ (n ≤ 32) × (widthOf measure n ≡ length (now right)) × Has (widthOf measure n) (length (now area)) d × Has (widthOf measure n) (length (now area)) r × (n ≡ length (now words)) × (part (widthOf measure n) (now area) r ≡ ownOf 31 measure n r (now words)) ⌝ }
+    requires { ⌜ (n ≤ 32) × (widthOf measure n ≡ length (now right))
+        × Has (widthOf measure n) (length (now area)) d × Has (widthOf measure n) (length (now area)) r
+        × (n ≡ length (now words)) × (part (widthOf measure n) (now area) r ≡ ownOf 31 measure n r (now words)) ⌝ }
     ensures { λ _. ⌜ now (area .exit) ≡ composeAt (kit measure n) (now (area .entry)) d d r ⌝ }
 {
     if measure == 4 {
@@ -218,8 +222,10 @@ pub fn joined_passes(
     l: usize,
     r: usize,
 ) -> bool
-    requires { ⌜ (n ≤ 32) × (measure ≢ 4) × (measure ≢ 3 → measure ≡ 2) × Has n (length (now area)) footprint × Has n (length (now area)) l × Has n (length (now area)) r ⌝ }
-    ensures { λ x. ⌜ x ≡ passOf 0 measure n (part n (now (area .entry)) footprint) (joinOf measure n (part n (now (area .entry)) l) (part n (now (area .entry)) r)) ⌝ }
+    requires { ⌜ (n ≤ 32) × (measure ≢ 4) × (measure ≢ 3 → measure ≡ 2)
+        × Has n (length (now area)) footprint × Has n (length (now area)) l × Has n (length (now area)) r ⌝ }
+    ensures { λ x. ⌜ x
+        ≡ passOf 0 measure n (part n (now (area .entry)) footprint) (joinOf measure n (part n (now (area .entry)) l) (part n (now (area .entry)) r)) ⌝ }
 {
     let from = (footprint - 1) * n;
     let at = (l - 1) * n;

@@ -1,7 +1,7 @@
 -- The loops of a whole run, and what it leaves. Assumes nothing.
 use mathlib.Core.Path.{_≡_, refl, sym, ap, ap₂, _∙_, subst}
 use mathlib.Core.Logic.{_≢_}
-use mathlib.Core.Bool.{Bool, true, false, not}
+use mathlib.Core.Bool.{Bool, true, false, not, cond}
 use mathlib.Core.List.{List, _++_}
 use Prim.Native.Nat.{ℕ, zero, suc, _+_, _-_, _*_, _≤_, _<_, zero-le}
 use native.Mathlib.Nat.{le-refl, add-zero, zero-add}
@@ -10,25 +10,26 @@ use native.Mathlib.Omega.{arith}
 use borrow.Author.Tests.{eq-eqb, ne-eqb, ltb-true}
 use lib.Dec.{eqb, ltb}
 use lib.ListN.{length, take, drop}
-use Rattle.lists.specs.Tab.{zeros}
+use Rattle.lists.specs.Tab.{zeros, splice}
 use Rattle.lists.proofs.Tab.{length-tab, length-zeros}
 use Rattle.links.specs.Tables.{union, eitherRow}
 use Rattle.checks.specs.Lent.{lentPick}
 use Rattle.checks.proofs.Lent.{lent-long, first-lent, first-room}
-use Rattle.measures.specs.Kit.{Kit, kit, widthOf, either}
+use Rattle.measures.specs.Kit.{Kit, kit, widthOf}
 use Rattle.measures.proofs.Words.{width-links}
 use Rattle.area.specs.Parts.{part, putPart, zeroAt, zeroed}
 use Rattle.area.proofs.Laws.{put-same, put-beyond, zeroed-part}
+use Rattle.place.specs.declared.Settings.{Settings}
 use Rattle.place.specs.declared.Place.{Place}
 use Rattle.place.proofs.Laws.{and-left, and-right}
-use Rattle.place.specs.Places.{fresh, charged, pickTaken, picksTaken}
+use Rattle.place.specs.Places.{fresh, charged, picksTaken, perPick}
 use Rattle.verdicts.specs.Verdicts.{needed}
 use Rattle.verdicts.specs.Fit.{Runs}
 use Rattle.steps.specs.Walk.{State, state, kitOf, ended, stepped}
 use Rattle.steps.specs.Fit.{Takes, Ready, Does}
 use Rattle.steps.specs.Alike.{Alike, finished}
 use Rattle.steps.specs.Bare.{bareStep}
-use Rattle.steps.proofs.Fit.{charged-none}
+use Rattle.steps.proofs.Fit.{boards-of, limit-of, charged-none}
 use Rattle.steps.proofs.Ready.{Stepped, step-takes, stepped-grown, stepped-framed, ready-on}
 use Rattle.steps.proofs.Alike.{StillAlike, alike-fresh, finished-step, finished-stays}
 use Rattle.steps.proofs.Bare.{bare-place, bare-whole, bare-walks, bare-frame}
@@ -108,7 +109,8 @@ module _ (n measure m : ℕ) (w a : List ℕ) (f : Runs n measure m w a) where
       }
 
   -- under the other measures there is no footprint
-  pub start-other : {p : Place} {b : List ℕ} → measure ≢ 2 → p ≡ fresh measure n m → b ≡ zeroAt (kit measure n) a (m + 3) → Begins n measure m w a p b
+  pub start-other : {p : Place} {b : List ℕ} → measure ≢ 2 → p ≡ fresh measure n m → b ≡ zeroAt (kit measure n) a (m + 3)
+      → Begins n measure m w a p b
   unfolding wholeStart openedArea zeroAt
   start-other ne e g =
       begun (e ∙ charged-none (fresh measure n m) ∙ rw (ne-eqb measure 2 ne)) (length-zeros E) g
@@ -117,7 +119,7 @@ module _ (n measure m : ℕ) (w a : List ℕ) (f : Runs n measure m w a) where
   -- under measure 2 it is made in part m + 3
   pub start-footprint : {p q : Place} {t : List ℕ} → measure ≡ 2 → q ≡ fresh measure n m → (p ≡ charged q (m - 1)) × (t ≡ unions n w m)
       → Begins n measure m w a p (take ((m + 2) * n) a ++ (t ++ drop n (drop ((m + 2) * n) a)))
-  unfolding wholeStart putPart
+  unfolding wholeStart splice
   start-footprint {p} {q} {t} two e u =
       let i : m + 3 - 1 ≡ m + 2 = omega arith in
       let k = width-links measure n (λ x. omega arith) in
@@ -133,13 +135,11 @@ pub record Along (p : Place) (w a : List ℕ) (m k : ℕ) (q : Place) (b : List 
   pub low : k ≤ m
   pub ready : Ready q (length b)
   pub size : length b ≡ length a
-  pub boards : q .boards ≡ p .boards
-  pub measure : q .measure ≡ p .measure
-  pub limit : q .limit ≡ p .limit
-  pub taken : q .taken .0 ≡ k
-  pub comps : q .compositions .0 ≤ 8192 + 12300 * k
-  pub tests : q .tests .0 ≤ 8192 + 4100 * k
-  pub beyond : drop ((p .limit + 4) * widthOf (p .measure) (p .boards)) b ≡ drop ((p .limit + 4) * widthOf (p .measure) (p .boards)) a
+  pub settings : q .settings ≡ p .settings
+  pub taken : q .window .taken .0 ≡ k
+  pub comps : q .counts .compositions .0 ≤ perPick * (k + 1)
+  pub tests : q .counts .tests .0 ≤ perPick * (k + 1)
+  pub beyond : drop ((p .settings .limit + 4) * kitOf (p .settings) .width) b ≡ drop ((p .settings .limit + 4) * kitOf (p .settings) .width) a
 
 pub along-start : (p : Place) (w a : List ℕ) (m : ℕ) → Starts p m w a → Along p w a m 0 p a
 along-start p w a m s =
@@ -150,9 +150,7 @@ along-start p w a m s =
       low = zero-le;
       ready = s .ready;
       size = refl;
-      boards = refl;
-      measure = refl;
-      limit = refl;
+      settings = refl;
       taken = s .none-taken;
       comps = omega arith;
       tests = omega arith;
@@ -161,13 +159,13 @@ along-start p w a m s =
 
 module _ {p q : Place} {w a b : List ℕ} {m k : ℕ} (g : Along p w a m k q b) (h : k < m) where
   abbrev pick : List ℕ
-  pick = lentPick (p .boards) w k
+  pick = lentPick (p .settings .boards) w k
 
-  shape : q .boards ≡ length pick
-  shape = g .boards ∙ sym (lent-long (p .boards) k m w (g .starts .words) h)
+  shape : q .settings .boards ≡ length pick
+  shape = boards-of (g .settings) ∙ sym (lent-long (p .settings .boards) k m w (g .starts .words) h)
 
-  room : q .taken .0 < q .limit
-  room = let t = g .taken in let l = g .limit in let z = g .starts .limit in omega arith
+  room : q .window .taken .0 < q .settings .limit
+  room = let t = g .taken in let l = limit-of (g .settings) in let z = g .starts .limit in omega arith
 
   -- the next step is taken
   pub along-takes : Takes q (length b) (length pick)
@@ -179,8 +177,9 @@ module _ {p q : Place} {w a b : List ℕ} {m k : ℕ} (g : Along p w a m k q b) 
       step-takes (g .ready) room (omega arith) (omega arith) shape
 
   -- a step that comes to the place of the walk, and writes no word beyond the parts
-  pub along-turn : {r : Place} {d : List ℕ} → r ≡ stepped (kitOf q) pick (state q b) .place → length d ≡ length b
-      → drop ((q .limit + 4) * widthOf (q .measure) (q .boards)) d ≡ drop ((q .limit + 4) * widthOf (q .measure) (q .boards)) b → Along p w a m (k + 1) r d
+  pub along-turn : {r : Place} {d : List ℕ} → r ≡ stepped (kitOf (q .settings)) pick (state q b) .place → length d ≡ length b
+      → drop ((q .settings .limit + 4) * kitOf (q .settings) .width) d ≡ drop ((q .settings .limit + 4) * kitOf (q .settings) .width) b
+      → Along p w a m (k + 1) r d
   along-turn {r} {d} e size out =
       let s = subst (λ (x : Place). Stepped q x) (sym e) (stepped-grown q b pick (g .ready) room) in
       let sc = s .comps in
@@ -194,44 +193,48 @@ module _ {p q : Place} {w a b : List ℕ} {m k : ℕ} (g : Along p w a m k q b) 
         low = omega arith;
         ready = subst (λ (x : ℕ). Ready r x) (sym size) (ready-on s (g .ready));
         size = size ∙ g .size;
-        boards = s .boards ∙ g .boards;
-        measure = s .measure ∙ g .measure;
-        limit = s .limit ∙ g .limit;
+        settings = s .settings ∙ g .settings;
         taken = omega arith;
         comps = omega arith;
         tests = omega arith;
-        beyond = subst (λ (x : ℕ). drop x d ≡ drop x b) (ap₂ (λ (x y : ℕ). (x + 4) * y) (g .limit) (ap₂ widthOf (g .measure) (g .boards))) out ∙ g .beyond;
+        beyond = subst (λ (s : Settings). drop ((s .limit + 4) * kitOf s .width) d ≡ drop ((s .limit + 4) * kitOf s .width) b) (g .settings) out
+            ∙ g .beyond;
       }
 
   -- a step of the walk
-  pub along-walk : Along p w a m (k + 1) (stepped (kitOf q) pick (state q b) .place) (stepped (kitOf q) pick (state q b) .area)
+  pub along-walk : Along p w a m (k + 1) (stepped (kitOf (q .settings)) pick (state q b) .place) (stepped (kitOf (q .settings)) pick (state q b) .area)
   along-walk = let f = stepped-framed q b pick (g .ready) room shape in along-turn refl (f .size) (f .beyond)
 
   -- a step of a whole run
-  pub along-bare : {r : Place} {d : List ℕ} → Does (bareStep (kitOf q) pick) q b r d → Along p w a m (k + 1) r d
+  pub along-bare : {r : Place} {d : List ℕ} → Does (bareStep (kitOf (q .settings)) pick) q b r d → Along p w a m (k + 1) r d
   along-bare {r} {d} e =
       let f = bare-frame q pick b along-takes in
-      along-turn (e .0 ∙ bare-place q pick b) (ap length (e .1) ∙ f .0) (ap (drop ((q .limit + 4) * widthOf (q .measure) (q .boards))) (e .1) ∙ f .1)
+      along-turn (e .0 ∙ bare-place q pick b) (ap length (e .1) ∙ f .0) (ap (drop ((q .settings .limit + 4) * kitOf (q .settings) .width)) (e .1) ∙ f .1)
 
 -- the state after one pick more
-pub bare-next : {p q r : Place} {w a b d : List ℕ} {m k : ℕ} → Along p w a m k q b → state q b ≡ bareSteps (kitOf p) (p .boards) w k (state p a)
-    → Does (bareStep (kitOf q) (lentPick (p .boards) w k)) q b r d → state r d ≡ bareSteps (kitOf p) (p .boards) w (k + 1) (state p a)
+pub bare-next : {p q r : Place} {w a b d : List ℕ} {m k : ℕ} → Along p w a m k q b
+    → state q b ≡ bareSteps (kitOf (p .settings)) (p .settings .boards) w k (state p a)
+    → Does (bareStep (kitOf (q .settings)) (lentPick (p .settings .boards) w k)) q b r d
+    → state r d ≡ bareSteps (kitOf (p .settings)) (p .settings .boards) w (k + 1) (state p a)
 unfolding bareSteps
 bare-next {p} {q} {r} {w} {a} {b} {d} {m} {k} g s e =
-    rw (add-one k) (ap₂ state (e .0) (e .1) ∙ ap₂ (λ (K : Kit) (x : State). bareStep K (lentPick (p .boards) w k) x) (ap₂ kit (g .measure) (g .boards)) s)
+    rw (add-one k) (ap₂ state (e .0) (e .1) ∙ ap₂ (λ (K : Kit) (x : State). bareStep K (lentPick (p .settings .boards) w k) x)
+    (ap kitOf (g .settings)) s)
 
 pub bare-none : (K : Kit) (n : ℕ) (w : List ℕ) (st : State) → st ≡ bareSteps K n w 0 st
 unfolding bareSteps
 bare-none K n w st = refl
 
 -- after the last pick
-pub along-end : {p q : Place} {w a b : List ℕ} {m k : ℕ} → Along p w a m k q b → state q b ≡ bareSteps (kitOf p) (p .boards) w k (state p a) → m ≤ k
-    → Does (bareSteps (kitOf p) (p .boards) w m) p a q b × Ends p m a q b
+pub along-end : {p q : Place} {w a b : List ℕ} {m k : ℕ} → Along p w a m k q b
+    → state q b ≡ bareSteps (kitOf (p .settings)) (p .settings .boards) w k (state p a) → m ≤ k
+    → Does (bareSteps (kitOf (p .settings)) (p .settings .boards) w m) p a q b × Ends p m a q b
 along-end {p} {q} {w} {a} {b} {m} {k} g s h =
     let l = g .low in
     let t = g .taken in
     let e : k ≡ m = omega arith in
-    let s′ : state q b ≡ bareSteps (kitOf p) (p .boards) w m (state p a) = s ∙ ap (λ (x : ℕ). bareSteps (kitOf p) (p .boards) w x (state p a)) e in (
+    let s′ : state q b ≡ bareSteps (kitOf (p .settings)) (p .settings .boards) w m (state p a) = s
+    ∙ ap (λ (x : ℕ). bareSteps (kitOf (p .settings)) (p .settings .boards) w x (state p a)) e in (
       (ap (λ (x : State). x .place) s′, ap (λ (x : State). x .area) s′),
       record { inside = λ y. g .ready .inside (omega arith); all-taken = omega arith; beyond = g .beyond },
     )
@@ -239,24 +242,25 @@ along-end {p} {q} {w} {a} {b} {m} {k} g s h =
 -- ---- the steps of the walk
 
 pub walked : (p : Place) (w a : List ℕ) (m : ℕ) → Starts p m w a → (k : ℕ) → k ≤ m
-    → Along p w a m k (stepsOf (kitOf p) (p .boards) w k (state p a) .place) (stepsOf (kitOf p) (p .boards) w k (state p a) .area)
+    → Along p w a m k (stepsOf (kitOf (p .settings)) (p .settings .boards) w k (state p a) .place) (stepsOf (kitOf (p .settings)) (p .settings .boards) w k
+    (state p a) .area)
 unfolding stepsOf
 walked p w a m s zero h = along-start p w a m s
 walked p w a m s (suc k) h =
     let g = walked p w a m s k (omega arith) in
-    let st = stepsOf (kitOf p) (p .boards) w k (state p a) in
-    let pick = lentPick (p .boards) w k in
-    subst (λ (i : ℕ). Along p w a m i (stepped (kitOf p) pick st .place) (stepped (kitOf p) pick st .area)) (add-one k)
-    (subst (λ (K : Kit). Along p w a m (k + 1) (stepped K pick st .place) (stepped K pick st .area)) (ap₂ kit (g .measure) (g .boards)) (along-walk g (omega arith)))
+    let st = stepsOf (kitOf (p .settings)) (p .settings .boards) w k (state p a) in
+    let pick = lentPick (p .settings .boards) w k in
+    subst (λ (i : ℕ). Along p w a m i (stepped (kitOf (p .settings)) pick st .place) (stepped (kitOf (p .settings)) pick st .area)) (add-one k)
+    (subst (λ (K : Kit). Along p w a m (k + 1) (stepped K pick st .place) (stepped K pick st .area)) (ap kitOf (g .settings)) (along-walk g (omega arith)))
 
 -- ---- the steps of a whole run beside those of the walk
 
 module _ (p : Place) (w a b : List ℕ) (m : ℕ) (sa : Starts p m w a) (sb : Starts p m w b) (x : Alike p a b) where
   abbrev bare : ℕ → State
-  bare k = bareSteps (kitOf p) (p .boards) w k (state p a)
+  bare k = bareSteps (kitOf (p .settings)) (p .settings .boards) w k (state p a)
 
   abbrev walk : ℕ → State
-  walk k = stepsOf (kitOf p) (p .boards) w k (state p b)
+  walk k = stepsOf (kitOf (p .settings)) (p .settings .boards) w k (state p b)
 
   -- after k picks both have come to one place, and to areas that no step tells apart
   pub record Beside (k : ℕ) : Type 0 where
@@ -270,74 +274,84 @@ module _ (p : Place) (w a b : List ℕ) (m : ℕ) (sa : Starts p m w a) (sb : St
   beside (suc k) h =
       let g = beside k (omega arith) in
       let q = bare k .place in
-      let pick = lentPick (p .boards) w k in
-      let kl : kitOf q ≡ kitOf p = ap₂ kit (g .left .measure) (g .left .boards) in
+      let pick = lentPick (p .settings .boards) w k in
+      let kl : kitOf (q .settings) ≡ kitOf (p .settings) = ap kitOf (g .left .settings) in
       let tr : Takes q (length (walk k .area)) (length pick) =
       subst (λ (y : Place). Takes y (length (walk k .area)) (length pick)) (sym (g .same)) (along-takes (walked p w b m sb k (omega arith)) (omega arith)) in
       let n = bare-walks q pick (bare k .area) (walk k .area) (along-takes (g .left) (omega arith)) tr (g .still) in
-      let e : (bareStep (kitOf p) pick (bare k) .place ≡ stepped (kitOf p) pick (walk k) .place)
-      × StillAlike (bareStep (kitOf p) pick (bare k) .place) (bareStep (kitOf p) pick (bare k) .area) (stepped (kitOf p) pick (walk k) .area) =
-      subst (λ (y : Place). (bareStep (kitOf p) pick (bare k) .place ≡ stepped (kitOf p) pick (state y (walk k .area)) .place)
-      × StillAlike (bareStep (kitOf p) pick (bare k) .place) (bareStep (kitOf p) pick (bare k) .area) (stepped (kitOf p) pick (state y (walk k .area)) .area)) (g .same)
+      let e : (bareStep (kitOf (p .settings)) pick (bare k) .place ≡ stepped (kitOf (p .settings)) pick (walk k) .place)
+      × StillAlike (bareStep (kitOf (p .settings)) pick (bare k) .place) (bareStep (kitOf (p .settings)) pick (bare k) .area)
+      (stepped (kitOf (p .settings)) pick (walk k) .area) =
+      subst (λ (y : Place). (bareStep (kitOf (p .settings)) pick (bare k) .place ≡ stepped (kitOf (p .settings)) pick (state y (walk k .area)) .place)
+      × StillAlike (bareStep (kitOf (p .settings)) pick (bare k) .place) (bareStep (kitOf (p .settings)) pick (bare k) .area)
+      (stepped (kitOf (p .settings)) pick (state y (walk k .area)) .area)) (g .same)
       (subst (λ (K : Kit). (bareStep K pick (bare k) .place ≡ stepped K pick (state q (walk k .area)) .place)
       × StillAlike (bareStep K pick (bare k) .place) (bareStep K pick (bare k) .area) (stepped K pick (state q (walk k .area)) .area)) kl n) in
-      let l : Along p w a m (k + 1) (bareStep (kitOf p) pick (bare k) .place) (bareStep (kitOf p) pick (bare k) .area) =
-      subst (λ (K : Kit). Along p w a m (k + 1) (bareStep K pick (bare k) .place) (bareStep K pick (bare k) .area)) kl (along-bare (g .left) (omega arith) (refl, refl)) in
+      let l : Along p w a m (k + 1) (bareStep (kitOf (p .settings)) pick (bare k) .place) (bareStep (kitOf (p .settings)) pick (bare k) .area) =
+      subst (λ (K : Kit). Along p w a m (k + 1) (bareStep K pick (bare k) .place) (bareStep K pick (bare k) .area)) kl (along-bare (g .left) (omega arith)
+      (refl, refl)) in
       record {
         same = e .0;
         still = e .1;
-        left = subst (λ (i : ℕ). Along p w a m i (bareStep (kitOf p) pick (bare k) .place) (bareStep (kitOf p) pick (bare k) .area)) (add-one k) l;
+        left = subst (λ (i : ℕ). Along p w a m i (bareStep (kitOf (p .settings)) pick (bare k) .place)
+            (bareStep (kitOf (p .settings)) pick (bare k) .area)) (add-one k) l;
       }
 
 -- ---- after the end of measure 1
 
 -- a step only counts the pick, and it stays the end
-finished-brief : (q : Place) (w b : List ℕ) → finished q ≡ true → bareStep (kitOf q) w (state q b) ≡ state (pickTaken q) b
+finished-brief : (q : Place) (w b : List ℕ) → finished q ≡ true → bareStep (kitOf (q .settings)) w (state q b) ≡ state (picksTaken q 1) b
 finished-brief q w b e =
-    bare-whole q w b (kept-one q false (and-left (eqb (q .measure) 1) (ended q) e)) ∙ finished-step q w b e
+    bare-whole q w b (kept-one (q .settings) false (and-left (eqb (q .settings .measure) 1) (ended q) e)) ∙ finished-step q w b e
 
-taken-next : (q : Place) (j : ℕ) → picksTaken (pickTaken q) j ≡ picksTaken q (suc j)
-unfolding picksTaken pickTaken
-taken-next q j = let e : q .taken .0 + 1 + j ≡ q .taken .0 + suc j = omega arith in rw e
+taken-next : (q : Place) (j : ℕ) → picksTaken (picksTaken q 1) j ≡ picksTaken q (suc j)
+unfolding picksTaken
+taken-next q j = let e : q .window .taken .0 + 1 + j ≡ q .window .taken .0 + suc j = omega arith in rw e
 
 taken-none : (q : Place) → q ≡ picksTaken q 0
 unfolding picksTaken
 taken-none q = rw add-zero
 
-finished-steps : (K : Kit) (n : ℕ) (w : List ℕ) (st : State) (k j : ℕ) (q : Place) (b : List ℕ) → kitOf q ≡ K → finished q ≡ true → state q b ≡ bareSteps K n w k st
+finished-steps : (K : Kit) (n : ℕ) (w : List ℕ) (st : State) (k j : ℕ) (q : Place) (b : List ℕ) → kitOf (q .settings) ≡ K
+    → finished q ≡ true → state q b ≡ bareSteps K n w k st
     → state (picksTaken q j) b ≡ bareSteps K n w (j + k) st
-unfolding bareSteps pickTaken
+unfolding bareSteps picksTaken
 finished-steps K n w st k zero q b f e g = rw zero-add (ap (λ (x : Place). state x b) (sym (taken-none q)) ∙ g)
 finished-steps K n w st k (suc j) q b f e g =
-    let h : state (pickTaken q) b ≡ bareSteps K n w (suc k) st = sym (finished-brief q (lentPick n w k) b e) ∙ ap₂ (λ (L : Kit) (x : State). bareStep L (lentPick n w k) x) f g in
+    let h : state (picksTaken q 1) b ≡ bareSteps K n w (suc k) st = sym (finished-brief q (lentPick n w k) b e)
+    ∙ ap₂ (λ (L : Kit) (x : State). bareStep L (lentPick n w k) x) f g in
     let i : j + suc k ≡ suc j + k = omega arith in
-    ap (λ (x : Place). state x b) (sym (taken-next q j)) ∙ finished-steps K n w st (suc k) j (pickTaken q) b f (finished-stays q e) h
+    ap (λ (x : Place). state x b) (sym (taken-next q j)) ∙ finished-steps K n w st (suc k) j (picksTaken q 1) b f (finished-stays q e) h
     ∙ ap (λ (x : ℕ). bareSteps K n w x st) i
 
 -- the picks that are left
-pub along-finished : {p q r : Place} {w a b : List ℕ} {m k : ℕ} → Along p w a m k q b → state q b ≡ bareSteps (kitOf p) (p .boards) w k (state p a) → k ≤ m → finished q ≡ true
-    → r ≡ picksTaken q (m - k) → Does (bareSteps (kitOf p) (p .boards) w m) p a r b × Ends p m a r b
+pub along-finished : {p q r : Place} {w a b : List ℕ} {m k : ℕ} → Along p w a m k q b
+    → state q b ≡ bareSteps (kitOf (p .settings)) (p .settings .boards) w k (state p a) → k ≤ m → finished q ≡ true
+    → r ≡ picksTaken q (m - k) → Does (bareSteps (kitOf (p .settings)) (p .settings .boards) w m) p a r b × Ends p m a r b
 unfolding picksTaken
 along-finished {p} {q} {r} {w} {a} {b} {m} {k} g s h e f =
     let i : m - k + k ≡ m = omega arith in
-    let t = finished-steps (kitOf p) (p .boards) w (state p a) k (m - k) q b (ap₂ kit (g .measure) (g .boards)) e s ∙ ap (λ (x : ℕ). bareSteps (kitOf p) (p .boards) w x (state p a)) i in
+    let t = finished-steps (kitOf (p .settings)) (p .settings .boards) w (state p a) k (m - k) q b (ap kitOf (g .settings)) e s
+    ∙ ap (λ (x : ℕ). bareSteps (kitOf (p .settings)) (p .settings .boards) w x (state p a)) i in
     let gt = g .taken in
-    let gi = g .ready .inside (ltb-true 0 (q .taken .0) (and-left (ltb 0 (q .taken .0)) (not (q .passed)) (and-right (eqb (q .measure) 1) (ended q) e))) in (
+    let gi = g .ready .inside (ltb-true 0 (q .window .taken .0) (and-left (ltb 0 (q .window .taken .0)) (not (q .marks .passed))
+    (and-right (eqb (q .settings .measure) 1) (ended q) e))) in (
       (f ∙ ap (λ (x : State). x .place) t, ap (λ (x : State). x .area) t),
       subst (λ (x : Place). Ends p m a x b) (sym f) (record { inside = λ y. omega arith; all-taken = omega arith; beyond = g .beyond }),
     )
 
-pub list-cost : (measure m : ℕ) → m ≤ 4096 → either (eqb measure 2) (m - 1) 0 ≤ 4096
+pub list-cost : (measure m : ℕ) → m ≤ 4096 → cond (eqb measure 2) (m - 1) 0 ≤ 4096
 list-cost measure m h = go (eqb measure 2)
   where
-    go : (x : Bool) → either x (m - 1) 0 ≤ 4096
+    go : (x : Bool) → cond x (m - 1) 0 ≤ 4096
     go true = omega arith
     go false = omega arith
 
 -- ---- from the start to the end
 
 -- the place and the area that a whole run starts from
-pub whole-starts : (n measure m c : ℕ) (w a : List ℕ) {p : Place} {b : List ℕ} → Runs n measure m w a → c ≤ 4096 → p ≡ charged (fresh measure n m) c → length b ≡ length a → Starts p m w b
+pub whole-starts : (n measure m c : ℕ) (w a : List ℕ) {p : Place} {b : List ℕ} → Runs n measure m w a → c ≤ 4096
+    → p ≡ charged (fresh measure n m) c → length b ≡ length a → Starts p m w b
 unfolding charged fresh
 whole-starts n measure m c w a {p} {b} f h e l =
     let z = f .words in
@@ -359,22 +373,25 @@ whole-starts n measure m c w a {p} {b} f h e l =
     })
 
 -- what the walk of a whole run comes to
-pub whole-ends : (n measure m : ℕ) (w a : List ℕ) {p q : Place} {b d : List ℕ} → Runs n measure m w a → Begins n measure m w a p b → length b ≡ length a
-    → Does (bareSteps (kitOf p) (p .boards) w m) p b q d → q ≡ wholeAfter n measure m w a m .place
+pub whole-ends : (n measure m : ℕ) (w a : List ℕ) {p q : Place} {b d : List ℕ} → Runs n measure m w a → Begins n measure m w a p b
+    → length b ≡ length a
+    → Does (bareSteps (kitOf (p .settings)) (p .settings .boards) w m) p b q d → q ≡ wholeAfter n measure m w a m .place
 unfolding wholeAfter wholeStart charged fresh
 whole-ends n measure m w a {p} {q} {b} {d} f g l e =
     let z = f .words in
     let o = opened-length n measure m (unions n w m) a (f .room) (λ x. sym (length-unions n w m (omega arith))) in
     let r = beside p w b (openedArea n measure m (unions n w m) a) m (whole-starts n measure m _ w a f (list-cost measure m (f .cap)) (g .place) l)
     (whole-starts n measure m _ w a f (list-cost measure m (f .cap)) (g .place) o) (g .alike) m (le-refl m) in
-    e .0 ∙ r .same ∙ ap (λ (y : Place). stepsOf (kitOf y) (y .boards) w m (state y (openedArea n measure m (unions n w m) a)) .place) (g .place)
+    e .0 ∙ r .same ∙ ap (λ (y : Place). stepsOf (kitOf (y .settings))
+    (y .settings .boards) w m (state y (openedArea n measure m (unions n w m) a)) .place) (g .place)
 
 -- the words beyond the needed ones
 pub whole-beyond : (n measure m : ℕ) (w a d : List ℕ) {p : Place} {b : List ℕ} → Begins n measure m w a p b
-    → drop ((p .limit + 4) * widthOf (p .measure) (p .boards)) d ≡ drop ((p .limit + 4) * widthOf (p .measure) (p .boards)) b
+    → drop ((p .settings .limit + 4) * kitOf (p .settings) .width) d ≡ drop ((p .settings .limit + 4) * kitOf (p .settings) .width) b
     → zeroed (needed measure n m) d ≡ zeroed (needed measure n m) a
-unfolding zeroed wholeStart charged fresh
+unfolding splice wholeStart charged fresh
 whole-beyond n measure m w a d {p} {b} g h =
     let k : drop (needed measure n m) d ≡ drop (needed measure n m) b =
-    subst (λ (x : Place). drop ((x .limit + 4) * widthOf (x .measure) (x .boards)) d ≡ drop ((x .limit + 4) * widthOf (x .measure) (x .boards)) b) (g .place) h in
+    subst (λ (x : Place). drop ((x .settings .limit + 4) * kitOf (x .settings) .width) d ≡ drop ((x .settings .limit + 4) * kitOf (x .settings) .width) b)
+    (g .place) h in
     ap (λ (x : List ℕ). zeros (needed measure n m) ++ x) (k ∙ g .beyond)

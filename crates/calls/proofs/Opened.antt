@@ -13,7 +13,7 @@ use Rattle.measures.proofs.Words.{width-links}
 use Rattle.area.specs.Parts.{part, putPart, zeroed}
 use Rattle.area.proofs.Laws.{put-length, put-same, put-other, put-beyond, zeroed-length, zeroed-part, zeroed-beyond}
 use Rattle.verdicts.specs.Verdicts.{needed}
-use Rattle.steps.proofs.Frames.{either-ind}
+use Rattle.steps.proofs.Frames.{cond-ind}
 use Rattle.calls.specs.Calls.{openedArea}
 
 module _ (n measure limit : ℕ) (footprint a : List ℕ) (room : needed measure n limit ≤ length a) (list : measure ≡ 2 → n ≡ length footprint) where
@@ -32,7 +32,7 @@ module _ (n measure limit : ℕ) (footprint a : List ℕ) (room : needed measure
   pub opened-length : length (openedArea n measure limit footprint a) ≡ length a
   unfolding openedArea
   opened-length =
-      either-ind (λ (x : List ℕ). length x ≡ length a) (eqb measure 2) (putPart E z (limit + 3) footprint) z
+      cond-ind (λ (x : List ℕ). length x ≡ length a) (eqb measure 2) (putPart E z (limit + 3) footprint) z
       (λ t. put-length E (limit + 4) z z-room (limit + 3) (omega arith) (omega arith) footprint (fills t) ∙ zeroed-length (needed measure n limit) a room)
       (λ t. zeroed-length (needed measure n limit) a room)
 
@@ -40,7 +40,7 @@ module _ (n measure limit : ℕ) (footprint a : List ℕ) (room : needed measure
   pub opened-part : (i : ℕ) → 1 ≤ i → i ≤ limit + 4 → i ≢ limit + 3 → part E (openedArea n measure limit footprint a) i ≡ zeros E
   unfolding openedArea
   opened-part i x y ne =
-      either-ind (λ (q : List ℕ). part E q i ≡ zeros E) (eqb measure 2) (putPart E z (limit + 3) footprint) z
+      cond-ind (λ (q : List ℕ). part E q i ≡ zeros E) (eqb measure 2) (putPart E z (limit + 3) footprint) z
       (λ t. put-other E (limit + 4) z z-room (limit + 3) (omega arith) (omega arith) footprint (fills t) i x ne ∙ zeroed-part E (limit + 4) a i x y)
       (λ t. zeroed-part E (limit + 4) a i x y)
 
@@ -48,7 +48,7 @@ module _ (n measure limit : ℕ) (footprint a : List ℕ) (room : needed measure
   pub opened-list : measure ≡ 2 → part E (openedArea n measure limit footprint a) (limit + 3) ≡ footprint
   unfolding openedArea
   opened-list m =
-      either-ind (λ (q : List ℕ). part E q (limit + 3) ≡ footprint) (eqb measure 2) (putPart E z (limit + 3) footprint) z
+      cond-ind (λ (q : List ℕ). part E q (limit + 3) ≡ footprint) (eqb measure 2) (putPart E z (limit + 3) footprint) z
       (λ t. put-same E (limit + 4) z z-room (limit + 3) (omega arith) (omega arith) footprint (fills t))
       (λ t. absurd (t (eq-refl m)))
 
@@ -56,6 +56,6 @@ module _ (n measure limit : ℕ) (footprint a : List ℕ) (room : needed measure
   pub opened-beyond : drop (needed measure n limit) (openedArea n measure limit footprint a) ≡ drop (needed measure n limit) a
   unfolding openedArea
   opened-beyond =
-      either-ind (λ (q : List ℕ). drop (needed measure n limit) q ≡ drop (needed measure n limit) a) (eqb measure 2) (putPart E z (limit + 3) footprint) z
+      cond-ind (λ (q : List ℕ). drop (needed measure n limit) q ≡ drop (needed measure n limit) a) (eqb measure 2) (putPart E z (limit + 3) footprint) z
       (λ t. put-beyond E (limit + 4) z z-room (limit + 3) (omega arith) (omega arith) footprint (fills t) ∙ zeroed-beyond (needed measure n limit) a room)
       (λ t. zeroed-beyond (needed measure n limit) a room)

@@ -1,5 +1,7 @@
 -- Document 01's number and values for each case of each answer. The promises of the calls speak of these.
 use Prim.Native.Nat.{ℕ}
+use mathlib.Core.Bool.{cond}
+use lib.Dec.{eqb}
 use Rattle.model.specs.Refusals.{number}
 use Rattle.place.specs.declared.Place.{Place}
 use Rattle.calls.specs.declared.Opening.{Opening}
@@ -26,6 +28,10 @@ pub record Outcome : Type 0 where
 
 abbrev pub outcome : ℕ → ℕ → ℕ → ℕ → Outcome
 outcome c k x y = record { refusal = c; length = k; compositions = x; tests = y }
+
+-- refused by c with counts 0, or answered by o where c is 0
+abbrev pub answerBy : ℕ → Outcome → Outcome
+answerBy c o = cond (eqb c 0) o (outcome c 0 0 0)
 
 -- opening answers the place
 abbrev pub openingSays : Opening → Handed

@@ -3,9 +3,10 @@ use mathlib.Core.List.{List}
 use mathlib.Core.Path.{_≡_}
 use Prim.Native.Nat.{ℕ, _+_, _*_, _≤_}
 use lib.ListN.{length, drop}
-use Rattle.measures.specs.Kit.{widthOf}
 use Rattle.place.specs.declared.Place.{Place}
+use Rattle.place.specs.Places.{perPick}
 use Rattle.verdicts.specs.Verdicts.{needed}
+use Rattle.steps.specs.Walk.{kitOf}
 use Rattle.steps.specs.Fit.{Ready}
 use Rattle.steps.specs.Alike.{Alike}
 use Rattle.calls.specs.Calls.{wholeStart}
@@ -13,11 +14,11 @@ use Rattle.calls.specs.Calls.{wholeStart}
 -- what they rely on: a place that has taken no pick, and words for m of them
 pub record Starts (p : Place) (m : ℕ) (w a : List ℕ) : Type 0 where
   pub ready : Ready p (length a)
-  pub none-taken : p .taken .0 ≡ 0
-  pub limit : p .limit ≡ m
-  pub words : m * p .boards ≤ length w
-  pub comps : p .compositions .0 ≤ 8192
-  pub tests : p .tests .0 ≤ 8192
+  pub none-taken : p .window .taken .0 ≡ 0
+  pub limit : p .settings .limit ≡ m
+  pub words : m * p .settings .boards ≤ length w
+  pub comps : p .counts .compositions .0 ≤ perPick
+  pub tests : p .counts .tests .0 ≤ perPick
 
 -- what they start from: the place of `wholeStart`, and an area that they cannot tell from its own, with the words beyond the parts as they were
 pub record Begins (n measure m : ℕ) (w a : List ℕ) (p : Place) (b : List ℕ) : Type 0 where
@@ -27,6 +28,6 @@ pub record Begins (n measure m : ℕ) (w a : List ℕ) (p : Place) (b : List ℕ
 
 -- what they leave, besides the state
 pub record Ends (p : Place) (m : ℕ) (a : List ℕ) (q : Place) (b : List ℕ) : Type 0 where
-  pub inside : 1 ≤ m → q .start .0 ≤ q .taken .0
-  pub all-taken : q .taken .0 ≡ m
-  pub beyond : drop ((p .limit + 4) * widthOf (p .measure) (p .boards)) b ≡ drop ((p .limit + 4) * widthOf (p .measure) (p .boards)) a
+  pub inside : 1 ≤ m → q .window .start .0 ≤ q .window .taken .0
+  pub all-taken : q .window .taken .0 ≡ m
+  pub beyond : drop ((p .settings .limit + 4) * kitOf (p .settings) .width) b ≡ drop ((p .settings .limit + 4) * kitOf (p .settings) .width) a

@@ -50,8 +50,8 @@ fn zero_needed(n: usize, measure: usize, limit: usize, area: &mut [u32])
     requires { ⌜ (n ≤ 32) × (limit ≤ 4096) × (needed measure n limit ≤ length (now area)) ⌝ }
     ensures { λ _. ⌜ now (area .exit) ≡ zeroed (needed measure n limit) (now (area .entry)) ⌝ }
 {
-    let e = measures::width(measure, n);
-    area::zero_first(area, (limit + 4) * e);
+    let k = verdicts::needed_words(measure, n, limit);
+    area::zero_first(area, k);
 }
 
 // The needed words zero, and the footprint of measure 2 in part limit + 3.
@@ -83,20 +83,20 @@ pub fn open(n: usize, measure: usize, limit: usize, footprint: &[u32], area: &mu
 
 // One step under measures 1 to 3, with room for the copy of a table of links.
 fn step_links(p: Place, area: &mut [u32], words: &[u32]) -> Place
-    requires { ⌜ Takes p (length (now area)) (length (now words)) × (p .measure ≢ 4) ⌝ }
-    ensures { λ r. ⌜ Does (stepped (kitOf p) (now (words .entry))) p (now (area .entry)) r (now (area .exit)) ⌝ }
+    requires { ⌜ Takes p (length (now area)) (length (now words)) × (p .settings .measure ≢ 4) ⌝ }
+    ensures { λ r. ⌜ Does (stepped (kitOf (p .settings)) (now (words .entry))) p (now (area .entry)) r (now (area .exit)) ⌝ }
 {
-    let n = p.boards;
+    let n = p.settings.boards;
     let mut right = lists::no_words();
     steps::step(p, area, words, &mut right[0..n], true)
 }
 
 // One step under measure 4, with room for the copy of a table of times.
 fn step_times(p: Place, area: &mut [u32], words: &[u32]) -> Place
-    requires { ⌜ Takes p (length (now area)) (length (now words)) × (p .measure ≡ 4) ⌝ }
-    ensures { λ r. ⌜ Does (stepped (kitOf p) (now (words .entry))) p (now (area .entry)) r (now (area .exit)) ⌝ }
+    requires { ⌜ Takes p (length (now area)) (length (now words)) × (p .settings .measure ≡ 4) ⌝ }
+    ensures { λ r. ⌜ Does (stepped (kitOf (p .settings)) (now (words .entry))) p (now (area .entry)) r (now (area .exit)) ⌝ }
 {
-    let n = p.boards;
+    let n = p.settings.boards;
     let e = n * n + n * n;
     let mut right = lists::no_times();
     steps::step(p, area, words, &mut right[0..e], true)
@@ -104,9 +104,9 @@ fn step_times(p: Place, area: &mut [u32], words: &[u32]) -> Place
 
 fn take_pick(p: Place, area: &mut [u32], words: &[u32]) -> Place
     requires { ⌜ Takes p (length (now area)) (length (now words)) ⌝ }
-    ensures { λ r. ⌜ Does (stepped (kitOf p) (now (words .entry))) p (now (area .entry)) r (now (area .exit)) ⌝ }
+    ensures { λ r. ⌜ Does (stepped (kitOf (p .settings)) (now (words .entry))) p (now (area .entry)) r (now (area .exit)) ⌝ }
 {
-    if p.measure == 4 {
+    if p.settings.measure == 4 {
         return step_times(p, area, words);
     }
     step_links(p, area, words)
@@ -126,17 +126,17 @@ pub fn pick(p: Place, area: &mut [u32], words: &[u32]) -> Taking
 
 // The answer of a place that is sound and has a pick: a length, or 9 with the counts.
 fn report(p: Place) -> Answer
-    requires { ⌜ (p .start .0 ≤ p .taken .0) × (p .taken .0 ≤ 4096) ⌝ }
+    requires { ⌜ (p .window .start .0 ≤ p .window .taken .0) × (p .window .taken .0 ≤ 4096) ⌝ }
     ensures { λ r. ⌜ answerSays r ≡ reportSays (reported p) p ⌝ }
 {
-    let m = p.taken.0;
-    let s = p.start.0;
-    let c = p.compositions;
-    let t = p.tests;
-    if p.passed {
+    let m = p.window.taken.0;
+    let s = p.window.start.0;
+    let c = p.counts.compositions;
+    let t = p.counts.tests;
+    if p.marks.passed {
         return Answer::Length(m + 1 - s, c, t);
     }
-    if p.measure == 1 {
+    if p.settings.measure == 1 {
         return Answer::Refused(Refusal::NoLength, c, t);
     }
     if 1 < s {
@@ -151,7 +151,7 @@ fn length_of(p: Place) -> Answer
     if !p.is_sound() {
         return Answer::Refused(Refusal::BadPlace, Compositions(0), Tests(0));
     }
-    if p.taken.0 == 0 {
+    if p.window.taken.0 == 0 {
         return Answer::Refused(Refusal::NoPick, Compositions(0), Tests(0));
     }
     report(p)
@@ -172,7 +172,7 @@ pub fn length(p: Place) -> Measured
 
 // The union of m picks, from pick 1 on. Each pick after it is one union, and the unions that were made are charged.
 fn unite_picks(p: Place, words: &[u32], n: usize, m: usize, out: &mut [u32]) -> Place
-    requires { ⌜ (n ≡ length (now out)) × (n ≤ 32) × (1 ≤ m) × (m ≤ 4096) × (m * n ≤ length (now words)) × (p .compositions .0 ≡ 0) ⌝ }
+    requires { ⌜ (n ≡ length (now out)) × (n ≤ 32) × (1 ≤ m) × (m ≤ 4096) × (m * n ≤ length (now words)) × (p .counts .compositions .0 ≡ 0) ⌝ }
     ensures { λ r. ⌜ (r ≡ charged p (m - 1)) × (now (out .exit) ≡ unions n (now (words .entry)) m) ⌝ }
 {
     lists::copy_over(out, &words[0..n], n);
@@ -203,10 +203,10 @@ fn whole_start(n: usize, measure: usize, words: &[u32], m: usize, area: &mut [u3
 // All picks, one after the other, by the unchecked step: a count that starts at m - 1 would be refused as 16. The area is not kept, and once measure 1
 // has ended the picks that are left only count.
 fn whole_steps(p: Place, area: &mut [u32], words: &[u32], m: usize, right: &mut [u32]) -> Place
-    requires { ⌜ Starts p m (now words) (now area) × Lends p (length (now right)) ⌝ }
-    ensures { λ r. ⌜ Does (bareSteps (kitOf p) (p .boards) (now (words .entry)) m) p (now (area .entry)) r (now (area .exit)) × Ends p m (now (area .entry)) r (now (area .exit)) ⌝ }
+    requires { ⌜ Starts p m (now words) (now area) × Lends (p .settings) (length (now right)) ⌝ }
+    ensures { λ r. ⌜ Does (bareSteps (kitOf (p .settings)) (p .settings .boards) (now (words .entry)) m) p (now (area .entry)) r (now (area .exit)) × Ends p m (now (area .entry)) r (now (area .exit)) ⌝ }
 {
-    let n = p.boards;
+    let n = p.settings.boards;
     let mut q = p;
     for k in 0..m {
         if steps::is_finished(q) {
@@ -220,20 +220,20 @@ fn whole_steps(p: Place, area: &mut [u32], words: &[u32], m: usize, right: &mut 
 
 // The same with room for the copy of a table of links, made once for all picks.
 fn whole_links(p: Place, area: &mut [u32], words: &[u32], m: usize) -> Place
-    requires { ⌜ Starts p m (now words) (now area) × (p .measure ≢ 4) ⌝ }
-    ensures { λ r. ⌜ Does (bareSteps (kitOf p) (p .boards) (now (words .entry)) m) p (now (area .entry)) r (now (area .exit)) × Ends p m (now (area .entry)) r (now (area .exit)) ⌝ }
+    requires { ⌜ Starts p m (now words) (now area) × (p .settings .measure ≢ 4) ⌝ }
+    ensures { λ r. ⌜ Does (bareSteps (kitOf (p .settings)) (p .settings .boards) (now (words .entry)) m) p (now (area .entry)) r (now (area .exit)) × Ends p m (now (area .entry)) r (now (area .exit)) ⌝ }
 {
-    let n = p.boards;
+    let n = p.settings.boards;
     let mut right = lists::no_words();
     whole_steps(p, area, words, m, &mut right[0..n])
 }
 
 // The same with room for the copy of a table of times.
 fn whole_times(p: Place, area: &mut [u32], words: &[u32], m: usize) -> Place
-    requires { ⌜ Starts p m (now words) (now area) × (p .measure ≡ 4) ⌝ }
-    ensures { λ r. ⌜ Does (bareSteps (kitOf p) (p .boards) (now (words .entry)) m) p (now (area .entry)) r (now (area .exit)) × Ends p m (now (area .entry)) r (now (area .exit)) ⌝ }
+    requires { ⌜ Starts p m (now words) (now area) × (p .settings .measure ≡ 4) ⌝ }
+    ensures { λ r. ⌜ Does (bareSteps (kitOf (p .settings)) (p .settings .boards) (now (words .entry)) m) p (now (area .entry)) r (now (area .exit)) × Ends p m (now (area .entry)) r (now (area .exit)) ⌝ }
 {
-    let n = p.boards;
+    let n = p.settings.boards;
     let e = n * n + n * n;
     let mut right = lists::no_times();
     whole_steps(p, area, words, m, &mut right[0..e])
@@ -241,9 +241,9 @@ fn whole_times(p: Place, area: &mut [u32], words: &[u32], m: usize) -> Place
 
 fn take_picks(p: Place, area: &mut [u32], words: &[u32], m: usize) -> Place
     requires { ⌜ Starts p m (now words) (now area) ⌝ }
-    ensures { λ r. ⌜ Does (bareSteps (kitOf p) (p .boards) (now (words .entry)) m) p (now (area .entry)) r (now (area .exit)) × Ends p m (now (area .entry)) r (now (area .exit)) ⌝ }
+    ensures { λ r. ⌜ Does (bareSteps (kitOf (p .settings)) (p .settings .boards) (now (words .entry)) m) p (now (area .entry)) r (now (area .exit)) × Ends p m (now (area .entry)) r (now (area .exit)) ⌝ }
 {
-    if p.measure == 4 {
+    if p.settings.measure == 4 {
         return whole_times(p, area, words, m);
     }
     whole_links(p, area, words, m)

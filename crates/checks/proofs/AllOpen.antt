@@ -1,21 +1,20 @@
 -- A pick has no forbidden bit exactly when its links are among those of the pick with all links open. Assumes nothing.
-use mathlib.Core.Path.{_≡_, refl, sym, ap, ap₂, _∙_, subst}
+use mathlib.Core.Path.{_≡_, refl, sym, ap, _∙_, subst}
 use mathlib.Core.Logic.{⊎-elim}
 use mathlib.Core.Bool.{_||_, _&&_, not}
-use mathlib.Core.List.{List, _++_}
+use mathlib.Core.List.{List}
 use Prim.Native.Nat.{ℕ, _-_, _^_, _≤_, _<_}
-use native.Mathlib.Nat.{lt-of-lt-of-le, sub-zero}
+use native.Mathlib.Nat.{lt-of-lt-of-le}
 use native.Mathlib.Omega.{arith}
 use lib.Bits.{bitAnd, bitOr, or-lt, or-add-and, and-le-l, and-le-r}
 use lib.Dec.{T, eqb, eqb→eq, leb, leb→le, le→leb}
-use lib.ListN.{getD, take, drop}
+use lib.ListN.{length, getD}
 use lib.Pow.{pow-pos, lt-of-le-ones}
 use Rattle.model.specs.Recording.{bit, link}
 use Rattle.model.proofs.Logic.{tr, bool-ext, or-l, or-r, or-cases, and-both, and-l, and-r, not-in, not-out, eqb-ne, ne-eqb, eq-refl}
 use Rattle.model.proofs.Bits.{bit-or, bits-ext}
 use Rattle.model.proofs.Ones.{bit-low}
-use Rattle.lists.specs.Tab.{tab, zeros, padded}
-use Rattle.lists.proofs.Tab.{length-tab, getD-tab, take-padded, every-ext}
+use Rattle.lists.proofs.Tab.{length-tab, getD-tab, every-ext}
 use Rattle.links.specs.Tables.{without}
 use Rattle.links.proofs.Bits.{bit-without, without-lt, without-32}
 use Rattle.checks.specs.Checks.{allowed, cleanRow, clean, listedRow, listed, allOpen}
@@ -46,7 +45,8 @@ module _ (n u : ℕ) (n32 : n ≤ 32) (h : u < n) where
       let r = and-le-r x row in
       let b = below in
       and-both (leb x (allowed n)) (not (bit x u)) (le→leb x (allowed n) (omega arith))
-      (not-in (bit x u) (λ t. ne-eqb u u (and-r (bit (allowed n) u) (not (eqb u u)) (tr (row-bit u h) (tr (ap (λ (y : ℕ). bit y u) e) (tr (sym (bit-or x row u)) (or-l (bit x u) (bit row u) t))))) refl))
+      (not-in (bit x u) (λ t. ne-eqb u u (and-r (bit (allowed n) u) (not (eqb u u))
+      (tr (row-bit u h) (tr (ap (λ (y : ℕ). bit y u) e) (tr (sym (bit-or x row u)) (or-l (bit x u) (bit row u) t))))) refl))
 
   out : (x : ℕ) → T (leb x (allowed n) && not (bit x u)) → bitOr x row ≡ row
   unfolding allowed
@@ -54,7 +54,8 @@ module _ (n u : ℕ) (n32 : n ≤ 32) (h : u < n) where
       let k : x < 2 ^ n = lt-of-le-ones n (leb→le x (2 ^ n - 1) (and-l (leb x (2 ^ n - 1)) (not (bit x u)) t)) in
       bits-ext n (bitOr x row) row (or-lt n x row k small) small (λ v hv. bit-or x row v ∙ bool-ext (bit x v || bit row v) (bit row v)
       (λ b. ⊎-elim (λ (c : T (bit x v)). tr (sym (row-bit v hv)) (and-both (bit (2 ^ n - 1) v) (not (eqb u v)) (bit-low n v hv)
-      (eqb-ne u v (λ e. not-out (bit x u) (and-r (leb x (2 ^ n - 1)) (not (bit x u)) t) (subst (λ (y : ℕ). T (bit x y)) (sym e) c))))) (λ (c : T (bit row v)). c) (or-cases (bit x v) (bit row v) b))
+      (eqb-ne u v (λ e. not-out (bit x u) (and-r (leb x (2 ^ n - 1)) (not (bit x u)) t) (subst (λ (y : ℕ). T (bit x y)) (sym e) c)))))
+      (λ (c : T (bit row v)). c) (or-cases (bit x v) (bit row v) b))
       (or-r (bit x v) (bit row v)))
 
   row-clean : (w : List ℕ) → listedRow (allOpen n) w u ≡ cleanRow n w u
@@ -65,7 +66,8 @@ module _ (n u : ℕ) (n32 : n ≤ 32) (h : u < n) where
       (λ t. into x (eqb→eq (bitOr x row) row t)) (λ t. eq-refl (out x t))
 
 -- what a word has outside its row is none exactly when it has no forbidden bit
-pub clean-word : (n : ℕ) (w : List ℕ) (u : ℕ) → n ≤ 32 → u < n → getD w u 0 < 2 ^ 32 → eqb (bitAnd (getD w u 0) (2 ^ 32 - 1 - without (allowed n) u)) 0 ≡ cleanRow n w u
+pub clean-word : (n : ℕ) (w : List ℕ) (u : ℕ) → n ≤ 32 → u < n → getD w u 0 < 2 ^ 32
+    → eqb (bitAnd (getD w u 0) (2 ^ 32 - 1 - without (allowed n) u)) 0 ≡ cleanRow n w u
 unfolding allOpen
 clean-word n w u n32 h hx =
     let e = getD-tab (without (allowed n)) n u h in
@@ -81,12 +83,6 @@ pub listed-clean-picks : (n : ℕ) (w : List ℕ) (m : ℕ) → n ≤ 32 → lis
 unfolding listedPicks cleanPicks listedPick cleanPick
 listed-clean-picks n w m n32 = every-ext (listedPick n (allOpen n) w) (cleanPick n w) m (λ k h. listed-clean n (lentPick n w k) n32)
 
--- the rows as code lends them
-pub open-lent : (n : ℕ) (x : List ℕ) → x ≡ padded 32 (allOpen n) → take (n - 0) x ≡ allOpen n
+pub length-open : (n : ℕ) → length (allOpen n) ≡ n
 unfolding allOpen
-open-lent n x e = ap₂ take (sub-zero n) e ∙ take-padded 32 n (tab (without (allowed n)) n) (length-tab (without (allowed n)) n)
-
--- and as code makes them: written over the first n of 32 zeros
-pub open-padded : (n : ℕ) (x y : List ℕ) → x ≡ zeros 32 → y ≡ allOpen n → y ++ drop (n - 0) x ≡ padded 32 (allOpen n)
-unfolding padded allOpen
-open-padded n x y e q = ap₂ (λ (a b : List ℕ). a ++ b) q (ap₂ drop (sub-zero n ∙ sym (length-tab (without (allowed n)) n)) e)
+length-open n = length-tab (without (allowed n)) n

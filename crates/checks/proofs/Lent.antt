@@ -34,7 +34,8 @@ length-lent n w zero = refl
 length-lent n w (suc k) = length-append (lentPicks n w k) (lentPick n w k ∷ []) ∙ ap (λ (x : ℕ). x + 1) (length-lent n w k) ∙ add-one k
 
 -- clean picks are a recording
-pub lent-recording : (n : ℕ) (w : List ℕ) (m : ℕ) → m * n ≤ length w → T (cleanPicks n w m) → (k : ℕ) → k ≤ m → Recording n (lentPicks n w k)
+pub lent-recording : (n : ℕ) (w : List ℕ) (m : ℕ) → m * n ≤ length w → T (cleanPicks n w m) → (k : ℕ) → k ≤ m
+    → Recording n (lentPicks n w k)
 unfolding lentPicks cleanPicks cleanPick
 lent-recording n w m room c zero h = tt
 lent-recording n w m room c (suc k) h =
@@ -47,7 +48,8 @@ unfolding lentPicks
 lent-at n w zero k h = absurd (omega arith)
 lent-at n w (suc m) k h =
     ⊎-elim (λ (e : k ≡ m). rw e (getD-at (lentPicks n w m) (lentPick n w m) [] [] m (length-lent n w m)))
-    (λ (l : k < m). List·getD-append (lentPicks n w m) (lentPick n w m ∷ []) [] k (omega (arith, length-lent n w m)) ∙ lent-at n w m k l) (eq-or-lt-of-le (le-of-suc-le-suc h))
+    (λ (l : k < m). List·getD-append (lentPicks n w m) (lentPick n w m ∷ []) [] k (omega (arith, length-lent n w m)) ∙ lent-at n w m k l)
+    (eq-or-lt-of-le (le-of-suc-le-suc h))
 
 -- and a recording is clean picks
 pub recording-lent : (n : ℕ) (w : List ℕ) (m : ℕ) → m * n ≤ length w → Recording n (lentPicks n w m) → T (cleanPicks n w m)

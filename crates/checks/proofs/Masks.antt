@@ -23,7 +23,8 @@ apart w m e v a b = tr (sym (bit-and w m v) ∙ ap (λ (x : ℕ). bit x v) e ∙
 apart-in : (w m : ℕ) → w < 2 ^ 32 → ((v : ℕ) → v < 32 → T (bit w v) → T (bit m v) → ⊥) → bitAnd w m ≡ 0
 apart-in w m h f =
     bits-ext 32 (bitAnd w m) 0 (lt-of-le-of-lt (and-le-l w m) h) (pow-pos 32)
-    (λ v hv. F→≡ (bit (bitAnd w m) v) (λ t. let b = tr (bit-and w m v) t in f v hv (and-l (bit w v) (bit m v) b) (and-r (bit w v) (bit m v) b)) ∙ sym (bit-high 0 v (pow-pos v)))
+    (λ v hv. F→≡ (bit (bitAnd w m) v) (λ t. let b = tr (bit-and w m v) t in f v hv (and-l (bit w v) (bit m v) b) (and-r (bit w v) (bit m v) b))
+    ∙ sym (bit-high 0 v (pow-pos v)))
 
 -- a word below 2 ^ n has bits below n alone
 below : (w n v : ℕ) → w < 2 ^ n → T (bit w v) → v < n
@@ -56,9 +57,11 @@ or-in x m f =
     (λ t. ⊎-elim (f v) (λ (z : T (bit m v)). z) (or-cases (bit x v) (bit m v) t)) (or-r (bit x v) (bit m v)))
 
 -- a word has no link outside the footprint's
-pub listed-word : (l w : List ℕ) (u : ℕ) → getD w u 0 < 2 ^ 32 → getD l u 0 < 2 ^ 32 → eqb (bitAnd (getD w u 0) (2 ^ 32 - 1 - getD l u 0)) 0 ≡ listedRow l w u
+pub listed-word : (l w : List ℕ) (u : ℕ) → getD w u 0 < 2 ^ 32 → getD l u 0 < 2 ^ 32
+    → eqb (bitAnd (getD w u 0) (2 ^ 32 - 1 - getD l u 0)) 0 ≡ listedRow l w u
 unfolding listedRow
-listed-word l w u hx hm = bool-ext (eqb (bitAnd x (2 ^ 32 - 1 - m)) 0) (eqb (bitOr x m) m) (λ t. eq-refl (one (eqb→eq (bitAnd x (2 ^ 32 - 1 - m)) 0 t))) (λ t. eq-refl (two (eqb→eq (bitOr x m) m t)))
+listed-word l w u hx hm = bool-ext (eqb (bitAnd x (2 ^ 32 - 1 - m)) 0) (eqb (bitOr x m) m) (λ t. eq-refl (one (eqb→eq (bitAnd x (2 ^ 32 - 1 - m)) 0 t)))
+    (λ t. eq-refl (two (eqb→eq (bitOr x m) m t)))
   where
     x : ℕ
     x = getD w u 0

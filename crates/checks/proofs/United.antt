@@ -2,19 +2,19 @@
 use mathlib.Core.Path.{_≡_, refl, sym, ap, ap₂, _∙_}
 use mathlib.Core.Logic.{⊎-elim}
 use mathlib.Core.Bool.{Bool, true, _&&_}
-use mathlib.Core.List.{List, _∷_, _++_}
+use mathlib.Core.List.{List, _++_}
 use Prim.Native.Nat.{ℕ, zero, suc, _+_, _-_, _≤_, _<_}
-use native.Mathlib.Nat.{sub-zero}
 use native.Mathlib.Numerals.{add-one}
 use native.Mathlib.Omega.{arith}
 use lib.Bits.{bitOr, or-zero-l}
 use lib.Dec.{eqb, eqb→eq}
 use lib.ListN.{length, getD, take, drop, length-append, getD-replicate}
-use lib.Seq.{take-at}
 use Rattle.model.specs.Recording.{bit}
 use Rattle.model.proofs.Logic.{tr, T→≡, bool-ext, or-l, or-r, or-cases, and-both, and-l, and-r, eq-refl}
 use Rattle.model.proofs.Bits.{bit-or}
 use Rattle.lists.specs.Tab.{zeros, every}
+use Rattle.lists.proofs.Splice.{written-first, lent-first}
+use Rattle.lists.proofs.Zeros.{lent}
 use Rattle.lists.proofs.Tab.{length-tab, getD-tab, length-zeros, every-in, every-out}
 use Rattle.links.specs.Tables.{union, eitherRow}
 use Rattle.checks.specs.Checks.{listedRow, listed}
@@ -95,12 +95,6 @@ module _ {n m : ℕ} {w t₀ : List ℕ} {k : ℕ} {t : List ℕ} (g : United n 
 
 -- ---- the table they are united onto
 
-take-zeros : (n k : ℕ) → n ≤ k → take n (zeros k) ≡ zeros n
-unfolding zeros
-take-zeros zero k h = refl
-take-zeros (suc n) zero h = absurd (omega arith)
-take-zeros (suc n) (suc k) h = ap (λ (x : List ℕ). 0 ∷ x) (take-zeros n k (omega arith))
-
 length-united : (n : ℕ) (t w : List ℕ) (m : ℕ) → length t ≡ n → length (unitedPicks n t w m) ≡ n
 unfolding unitedPicks union
 length-united n t w zero e = e
@@ -109,7 +103,7 @@ length-united n t w (suc m) e = length-tab (eitherRow (unitedPicks n t w m) (len
 -- x are 32 zeros, of which code lends the first n; y is the union that is written over them
 module _ (n m : ℕ) (w x y : List ℕ) (n32 : n ≤ 32) (z : x ≡ zeros 32) (e : y ≡ unitedPicks n (take (n - 0) x) w m) where
   union-is : y ≡ unitedPicks n (zeros n) w m
-  union-is = e ∙ ap (λ (t : List ℕ). unitedPicks n t w m) (ap₂ take (sub-zero n) z ∙ take-zeros n 32 n32)
+  union-is = e ∙ ap (λ (t : List ℕ). unitedPicks n t w m) (lent n 32 x z n32)
 
   union-long : length y ≡ n
   union-long = ap length union-is ∙ length-united n (zeros n) w m (length-zeros n)
@@ -118,7 +112,7 @@ module _ (n m : ℕ) (w x y : List ℕ) (n32 : n ≤ 32) (z : x ≡ zeros 32) (e
   union-room = omega (arith, union-long, length-append y (drop (n - 0) x))
 
   again : take (n - 0) (y ++ drop (n - 0) x) ≡ y
-  again = take-at y (drop (n - 0) x) (n - 0) (union-long ∙ sym (sub-zero n))
+  again = lent-first x union-long (written-first n x refl)
 
   pub union-lent-room : n ≤ length (take (n - 0) (y ++ drop (n - 0) x))
   union-lent-room = omega (arith, ap length again, union-long)

@@ -2,7 +2,7 @@
 ghost use mathlib.Core.Path.{_≡_};
 ghost use Prim.Native.Nat.{_*_, _≤_};
 ghost use lib.ListN.{length};
-ghost use Rattle.lists.specs.Tab.{padded};
+ghost use Rattle.lists.specs.Tab.{zeros, splice};
 ghost use Rattle.checks.specs.Checks.{allowed, clean, listed, allOpen};
 ghost use Rattle.checks.specs.Lent.{cleanPicks, unitedPicks};
 use model::Board;
@@ -83,7 +83,7 @@ pub fn is_listed(footprint: &[u32], words: &[u32], n: usize) -> bool
 // The pick with all links open, and zeros up to 32: each row has the allowed bits but for its own.
 fn all_open(n: usize) -> [u32; 32]
     requires { ⌜ n ≤ 32 ⌝ }
-    ensures { λ r. ⌜ r ≡ padded 32 (allOpen n) ⌝ }
+    ensures { λ r. ⌜ r ≡ splice 0 n (allOpen n) (zeros 32) ⌝ }
 {
     let row = allowed_bits(n);
     let mut rows = lists::no_words();

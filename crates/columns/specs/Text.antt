@@ -1,21 +1,18 @@
 -- Numbers and dashes as text, in columns.
-use mathlib.Core.Bool.{Bool, true, false}
+use mathlib.Core.Bool.{cond}
 use mathlib.Core.List.{List, [], _∷_, _++_}
 use mathlib.Core.Path.{_≡_}
 use Prim.Native.Nat.{ℕ, zero, suc, _+_, _/_, _%_}
 use lib.Dec.{ltb}
-use lib.ListN.{length, take, drop}
+use lib.ListN.{length}
+use Rattle.lists.specs.Tab.{splice}
 use Rattle.columns.specs.declared.Cell.{Cell}
 use Rattle.columns.specs.declared.Cell.the-variants.{Number, Dash, File}
-
-abbrev pub pickText : Bool → List ℕ → List ℕ → List ℕ
-pickText true a b = a
-pickText false a b = b
 
 -- the decimal digits of x, in at most f + 1 places
 unfoldable pub decimal : ℕ → ℕ → List ℕ
 decimal zero x = (48 + x) ∷ []
-decimal (suc f) x = pickText (ltb x 10) ((48 + x) ∷ []) (decimal f (x / 10) ++ ((48 + x % 10) ∷ []))
+decimal (suc f) x = cond (ltb x 10) ((48 + x) ∷ []) (decimal f (x / 10) ++ ((48 + x % 10) ∷ []))
 
 -- a number has no more places than its value
 unfoldable pub decimalOf : ℕ → List ℕ
@@ -36,11 +33,7 @@ line5 a b c d e =
     ++ (cellText d ++ (32 ∷ [])))
     ++ (cellText e ++ (10 ∷ []))
 
--- the buffer, with the bytes xs from `at` on
-unfoldable pub putAt : List ℕ → ℕ → List ℕ → List ℕ
-putAt buf at xs = take at buf ++ (xs ++ drop (at + length xs) buf)
-
 -- after xs is put at a place: the place behind it, and the buffer
 pub record Put (buf : List ℕ) (at : ℕ) (xs : List ℕ) (next : ℕ) (left : List ℕ) : Type 0 where
   pub behind : next ≡ at + length xs
-  pub bytes : left ≡ putAt buf at xs
+  pub bytes : left ≡ splice at (length xs) xs buf

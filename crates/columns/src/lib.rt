@@ -1,9 +1,8 @@
 // Lines of numbers and dashes in columns, written into a buffer. The contracts say which bytes.
-ghost use mathlib.Core.Path.{_≡_};
 ghost use mathlib.Core.List.{_++_, _∷_, []};
 ghost use Prim.Native.Nat.{_+_, _≤_, _<_};
 ghost use lib.ListN.{length};
-ghost use Rattle.columns.specs.Text.{decimalOf, cellText, line5, putAt, Put};
+ghost use Rattle.columns.specs.Text.{decimalOf, cellText, line5, Put};
 
 // What a column holds: a number, a dash where there is none, or the word `file`.
 pub enum Cell {
@@ -15,7 +14,7 @@ pub enum Cell {
 // Writes one byte.
 fn put_byte(buf: &mut [u8], at: usize, b: u8) -> usize
     requires { ⌜ at < length (now buf) ⌝ }
-    ensures { λ r. ⌜ (r ≡ at + 1) × (now (buf .exit) ≡ putAt (now (buf .entry)) at (b ∷ [])) ⌝ }
+    ensures { λ r. ⌜ Put (now (buf .entry)) at (b ∷ []) r (now (buf .exit)) ⌝ }
 {
     buf[at] = b;
     at + 1
@@ -24,7 +23,7 @@ fn put_byte(buf: &mut [u8], at: usize, b: u8) -> usize
 // Writes the digits of x, and answers the place behind them.
 fn put_decimal(buf: &mut [u8], at: usize, x: usize) -> usize
     requires { ⌜ at + length (decimalOf x) ≤ length (now buf) ⌝ }
-    ensures { λ r. ⌜ (r ≡ at + length (decimalOf x)) × (now (buf .exit) ≡ putAt (now (buf .entry)) at (decimalOf x)) ⌝ }
+    ensures { λ r. ⌜ Put (now (buf .entry)) at (decimalOf x) r (now (buf .exit)) ⌝ }
 {
     if x < 10 {
         return put_byte(buf, at, 48 + x as u8);
@@ -48,7 +47,7 @@ pub fn put_text(buf: &mut [u8], at: usize, text: &[u8]) -> usize
 // Writes a cell and the byte behind it: at most 20 digits, and one.
 pub fn put_cell(buf: &mut [u8], at: usize, cell: Cell, after: u8) -> usize
     requires { ⌜ at + 21 ≤ length (now buf) ⌝ }
-    ensures { λ r. ⌜ (r ≡ at + length (cellText cell ++ (after ∷ []))) × (r ≤ at + 21) × (now (buf .exit) ≡ putAt (now (buf .entry)) at (cellText cell ++ (after ∷ []))) ⌝ }
+    ensures { λ r. ⌜ Put (now (buf .entry)) at (cellText cell ++ (after ∷ [])) r (now (buf .exit)) × (r ≤ at + 21) ⌝ }
 {
     match cell {
         Cell::Number(x) => {

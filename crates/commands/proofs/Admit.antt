@@ -1,23 +1,26 @@
 -- What is known of a command that was not refused. Assumes nothing.
 use mathlib.Core.Path.{_≡_, refl, sym, ap, _∙_, subst}
 use mathlib.Core.Bool.{Bool, true, false, _||_, true≢false}
-use mathlib.Core.List.{List}
+use mathlib.Core.List.{List, [], _∷_, _++_}
 use Prim.Native.Nat.{ℕ, _+_, _*_, _≤_, _<_}
 use native.Mathlib.Omega.{arith}
-use borrow.Author.Tests.{ltb-false, leb-false, eqb-false}
-use lib.Dec.{eqb, leb}
+use borrow.Author.Tests.{ltb-false, leb-false, eqb-false, lt-ltb}
+use lib.Dec.{eqb, leb, ltb}
 use lib.ListN.{length, getD}
 use Rattle.model.specs.declared.Board.{Board}
 use Rattle.model.specs.declared.Refusal.{Refusal}
+use Rattle.model.specs.declared.Refusal.the-variants as cause
+use Rattle.model.specs.Recording.{link}
+use Rattle.model.specs.Causes.{NoneHolds, RefusalCauses, firstOr, byNumber}
+use Rattle.model.proofs.Causes.{none-refused}
 use Rattle.commands.specs.declared.Command.{Command}
 use Rattle.commands.specs.declared.Command.the-variants.{Boards, Later, Not}
 use Rattle.commands.specs.declared.Item.the-variants.{Link, Pick, End}
 use Rattle.commands.specs.declared.Width.{Width}
 use Rattle.commands.specs.declared.Width.the-variants.{Known, Unknown}
-use Rattle.commands.specs.Commands.{refuse, widthOf, commandOf, misplaced, takenApart, commandAt, operandsIn}
+use Rattle.commands.specs.Commands.{widthOf, misplaced, isUnknown, operandsOf, unreadable, spelledAt, operandsIn}
+use Rattle.commands.specs.Causes.{noLink, unchanged, boardsCauses, laterCauses, headAt, next}
 use Rattle.commands.proofs.Table.{width-law}
-use Rattle.model.specs.Recording.{link}
-use Rattle.commands.specs.Causes.{noLink, unchanged, boardsFit, headAt, admitted, next}
 
 or-left : (a b : Bool) → (a || b) ≡ false → a ≡ false
 or-left true b e = absurd (true≢false e)
@@ -49,98 +52,73 @@ in-links n a b k e q h = let l = linkable n a b e in let f = l .from in let t = 
 pub no : _≡_ {A = ℕ} 0 1 → ⊥
 no e = omega arith
 
--- not refused
+-- ---- a command that is taken
+
+-- its byte is in the table and in its place, its operands are within the file, and of its own causes none holds
+pub record Stood (own : Command → RefusalCauses) (Q : Command → Type 0) (first : Bool) (bytes : List ℕ) (at : ℕ) : Type 0 where
+  pub operands : ℕ
+  pub width : widthOf (getD bytes at 0) ≡ Known operands
+  pub placed : misplaced first (getD bytes at 0) ≡ false
+  pub within : at + 1 + operands ≤ length bytes
+  pub fits : NoneHolds (byNumber (own (spelledAt bytes at)))
+  pub says : Q (spelledAt bytes at)
+
+-- `Q` holds of no refused command
+pub stood : (own : Command → RefusalCauses) (Q : Command → Type 0) → ((r : Refusal) → Q (Not r) → ⊥)
+    → (first : Bool) (bytes : List ℕ) (at : ℕ)
+    → Q (firstOr Not (unreadable first bytes at ++ own (spelledAt bytes at)) (spelledAt bytes at)) → Stood own Q first bytes at
+stood own Q never first bytes at q =
+    let p = none-refused Not Q never (unreadable first bytes at ++ own (spelledAt bytes at)) (spelledAt bytes at) q in
+    let n = p .0 in
+    let m = misplaced first (getD bytes at 0) in
+    let w = widthOf (getD bytes at 0) in
+    let h = ltb-false (length bytes) (at + 1 + operandsOf w) (n .1 .0) in
+    let t = rw (lt-ltb at (length bytes) (omega arith)) at (n .0) in
+    by w refl (or-left m (isUnknown w) t) (or-right m (isUnknown w) t) h (n .1 .1) (p .1)
+  where
+    by : (w : Width) → widthOf (getD bytes at 0) ≡ w → misplaced first (getD bytes at 0) ≡ false → isUnknown w ≡ false
+        → at + 1 + operandsOf w ≤ length bytes
+        → NoneHolds (byNumber (own (spelledAt bytes at))) → Q (spelledAt bytes at) → Stood own Q first bytes at
+    by (Known k) i m u h f q = record { operands = k; width = i; placed = m; within = h; fits = f; says = q }
+    by Unknown i m u h f q = absurd (true≢false u)
+
+-- y is no refusal
 abbrev Taken : Command → Type 0
 Taken (Boards n) = Unit {0}
 Taken (Later i) = Unit {0}
 Taken (Not r) = ⊥
 
--- what is not refused went past the cause; `Q` holds of no refused command
-pub past-as : (Q : Command → Type 0) → ((r : Refusal) → Q (Not r) → ⊥) → (t : Bool) (r : Refusal) (x : Command) → Q (refuse t r x) → (t ≡ false) × Q x
-unfolding refuse
-past-as Q never true r x q = absurd (never r q)
-past-as Q never false r x q = (refl, q)
+-- as the command y
+pub record StoodAs (own : Command → RefusalCauses) (first : Bool) (bytes : List ℕ) (at : ℕ) (y : Command) : Type 0 where
+  pub stands : Stood own (λ (z : Command). z ≡ y) first bytes at
+  pub inside : at + 1 + operandsIn y ≤ length bytes
+  pub fits : NoneHolds (byNumber (own y))
 
-past : (t : Bool) (r : Refusal) (x y : Command) → refuse t r x ≡ y → Taken y → (t ≡ false) × (x ≡ y)
-past t r x y e h = past-as (λ (z : Command). z ≡ y) (λ s i. subst Taken (sym i) h) t r x e
-
-pub record Linked (n : ℕ) (links : List ℕ) (a b : ℕ) (v : Bool) : Type 0 where
-  pub able : noLink n a b ≡ false
-  pub changes : unchanged v (link links a b) ≡ false
-
-pub admitted-link : (n limit count : ℕ) (links : List ℕ) (x : Command) (a b : Board) (v : Bool)
-    → admitted n limit count links x ≡ Later (Link a b v) → Linked n links (a .0) (b .0) v
-admitted-link n limit count links (Later (Link a′ b′ v′)) a b v e =
-    let p = past _ _ _ _ e tt in
-    let q = past _ _ _ _ (p .1) tt in
-    let l = q .1 in
-    let ea : a′ ≡ a = cc in
-    let eb : b′ ≡ b = cc in
-    let ev : v′ ≡ v = cc in
-    rw (sym ea, sym eb, sym ev) record { able = p .0; changes = q .0 }
-admitted-link n limit count links (Later Pick) a b v e =
-    let p = past _ _ _ _ e tt in
-    let l = p .1 in
-    absurd (no cc)
-admitted-link n limit count links (Later End) a b v e = absurd (no cc)
-admitted-link n limit count links (Boards m) a b v e = absurd (no cc)
-admitted-link n limit count links (Not r) a b v e = absurd (no cc)
-
-pub admitted-pick : (n limit count : ℕ) (links : List ℕ) (x : Command) → admitted n limit count links x ≡ Later Pick → count < limit
-admitted-pick n limit count links (Later (Link a b v)) e =
-    let p = past _ _ _ _ e tt in
-    let q = past _ _ _ _ (p .1) tt in
-    let l = q .1 in
-    absurd (no cc)
-admitted-pick n limit count links (Later Pick) e = leb-false limit count (past _ _ _ _ e tt .0)
-admitted-pick n limit count links (Later End) e = absurd (no cc)
-admitted-pick n limit count links (Boards m) e = absurd (no cc)
-admitted-pick n limit count links (Not r) e = absurd (no cc)
-
--- a command that is taken apart: its byte is in the table and in its place, its operands are within the file
-pub record Stood (Q : Command → Type 0) (first : Bool) (bytes : List ℕ) (at : ℕ) : Type 0 where
-  pub operands : ℕ
-  pub width : widthOf (getD bytes at 0) ≡ Known operands
-  pub placed : misplaced first (getD bytes at 0) ≡ false
-  pub within : at + 1 + operands ≤ length bytes
-  pub says : Q (commandOf (getD bytes at 0) (getD bytes (at + 1) 0) (getD bytes (at + 2) 0))
-
-pub stood : (Q : Command → Type 0) → ((r : Refusal) → Q (Not r) → ⊥) → (first : Bool) (bytes : List ℕ) (at : ℕ) → Q (commandAt first bytes at)
-    → Stood Q first bytes at
-unfolding commandAt
-stood Q never first bytes at q =
-    let p = past-as Q never _ _ _ q in
-    let s = past-as Q never _ _ _ (p .1) in
-    by (widthOf (getD bytes at 0)) refl (s .0) (s .1)
-  where
-    by : (w : Width) → widthOf (getD bytes at 0) ≡ w → misplaced first (getD bytes at 0) ≡ false → Q (takenApart w bytes at) → Stood Q first bytes at
-    by (Known k) i m j =
-        let r = past-as Q never _ _ _ j in
-        record { operands = k; width = i; placed = m; within = ltb-false _ _ (r .0); says = r .1 }
-    by Unknown i m j = absurd (never _ j)
-
-taken-inside : (first : Bool) (bytes : List ℕ) (at : ℕ) (x : Command) → commandAt first bytes at ≡ x → Taken x → at + 1 + operandsIn x ≤ length bytes
-taken-inside first bytes at x e h =
-    let s = stood (λ (z : Command). z ≡ x) (λ r i. subst Taken (sym i) h) first bytes at e in
-    let o : operandsIn x ≡ s .operands =
+stood-as : (own : Command → RefusalCauses) (first : Bool) (bytes : List ℕ) (at : ℕ) (y : Command)
+    → firstOr Not (unreadable first bytes at ++ own (spelledAt bytes at)) (spelledAt bytes at) ≡ y → Taken y → StoodAs own first bytes at y
+stood-as own first bytes at y e h =
+    let s = stood own (λ (z : Command). z ≡ y) (λ r i. subst Taken (sym i) h) first bytes at e in
+    let o : operandsIn y ≡ s .operands =
     ap operandsIn (sym (s .says)) ∙ width-law (getD bytes at 0) (s .operands) (getD bytes (at + 1) 0) (getD bytes (at + 2) 0) (s .width) in
-    rw o (s .within)
+    record { stands = s; inside = rw o (s .within); fits = rw (s .says) at (s .fits) }
 
--- no later cause makes an end of another command
-admitted-end : (n limit count : ℕ) (links : List ℕ) (x : Command) → admitted n limit count links x ≡ Later End → x ≡ Later End
-admitted-end n limit count links (Later (Link a b v)) e =
-    let p = past _ _ _ _ e tt in
-    past _ _ _ _ (p .1) tt .1
-admitted-end n limit count links (Later Pick) e = past _ _ _ _ e tt .1
-admitted-end n limit count links (Later End) e = e
-admitted-end n limit count links (Boards m) e = e
-admitted-end n limit count links (Not r) e = e
+module _ (bytes : List ℕ) (n limit at count : ℕ) (links : List ℕ) where
+  pub record Linked (a b : ℕ) (v : Bool) : Type 0 where
+    pub able : noLink n a b ≡ false
+    pub changes : unchanged v (link links a b) ≡ false
 
-pub end-inside : (bytes : List ℕ) (n limit at count : ℕ) (links : List ℕ) → next bytes n limit at count links ≡ Later End → at < length bytes
-unfolding next
-end-inside bytes n limit at count links e =
-    let h : at + 1 + 0 ≤ length bytes = taken-inside false bytes at (Later End) (admitted-end n limit count links _ e) tt in
-    omega arith
+  taken : (y : Command) → next bytes n limit at count links ≡ y → Taken y → StoodAs (laterCauses n limit count links) false bytes at y
+  unfolding next
+  taken y e h = stood-as (laterCauses n limit count links) false bytes at y e h
+
+  pub next-link : (a b : Board) (v : Bool) → next bytes n limit at count links ≡ Later (Link a b v) → Linked (a .0) (b .0) v
+  next-link a b v e = let f = taken (Later (Link a b v)) e tt .fits in record { able = f .0; changes = f .1 .0 }
+
+  pub next-pick : next bytes n limit at count links ≡ Later Pick → count < limit
+  next-pick e = leb-false limit count (taken (Later Pick) e tt .fits .0)
+
+  pub next-end : next bytes n limit at count links ≡ Later End → at < length bytes
+  next-end e = let h = taken (Later End) e tt .inside in omega arith
 
 -- what a first command that is taken says
 pub record Headed (limit room : ℕ) (bytes : List ℕ) (start n : ℕ) : Type 0 where
@@ -150,32 +128,20 @@ pub record Headed (limit room : ℕ) (bytes : List ℕ) (start n : ℕ) : Type 0
   pub high : n ≤ 32
   pub room-for : limit * n ≤ room
   pub there : start + 2 ≤ length bytes
-  pub says : commandAt true bytes start ≡ Boards n
-
-boards-fit : (limit room : ℕ) (x : Command) (n : ℕ) → boardsFit limit room x ≡ Boards n → (x ≡ Boards n) × ((2 ≤ n) × ((n ≤ 32) × (limit * n ≤ room)))
-boards-fit limit room (Boards m) n e =
-    let p = past _ _ _ _ e tt in
-    let q = past _ _ _ _ (p .1) tt in
-    let r = past _ _ _ _ (q .1) tt in
-    let l = r .1 in
-    let em : m ≡ n = cc in
-    (l, rw (sym em) (ltb-false m 2 (p .0), (ltb-false 32 m (q .0), ltb-false room (limit * m) (r .0))))
-boards-fit limit room (Later i) n e = absurd (no cc)
-boards-fit limit room (Not r) n e = absurd (no cc)
+  pub stands : Stood (boardsCauses limit room) (λ (z : Command). z ≡ Boards n) true bytes start
 
 pub headed : (limit room : ℕ) (bytes : List ℕ) (start n : ℕ) → headAt limit room bytes start ≡ Boards n → Headed limit room bytes start n
-unfolding headAt
+unfolding headAt firstOr
 headed limit room bytes start n e =
-    let p = past _ _ _ _ e tt in
-    let q = past _ _ _ _ (p .1) tt in
-    let f = boards-fit limit room _ n (q .1) in
-    let t : start + 1 + 1 ≤ length bytes = taken-inside true bytes start (Boards n) (f .0) tt in
+    let (l, i) = none-refused Not (λ (z : Command). z ≡ Boards n) (λ r z. no cc) ((eqb limit 0 || ltb 4096 limit, cause.Picks) ∷ []) _ e in
+    let s = stood-as (boardsCauses limit room) true bytes start (Boards n) i tt in
+    let b = s .fits .0 in
     record {
-      some = omega (arith, eqb-false limit 0 (p .0));
-      few = ltb-false 4096 limit (q .0);
-      low = f .1 .0;
-      high = f .1 .1 .0;
-      room-for = f .1 .1 .1;
-      there = omega arith;
-      says = f .0;
+      some = omega (arith, eqb-false limit 0 (or-left _ _ (l .0)));
+      few = ltb-false 4096 limit (or-right (eqb limit 0) _ (l .0));
+      low = ltb-false n 2 (or-left _ _ b);
+      high = ltb-false 32 n (or-right (ltb n 2) _ b);
+      room-for = ltb-false room (limit * n) (s .fits .1 .0);
+      there = omega (arith, s .inside);
+      stands = s .stands;
     }

@@ -4,24 +4,25 @@ use mathlib.Core.Bool.{Bool, true, false}
 use mathlib.Core.List.{List, _∷_, _++_}
 use Prim.Native.Nat.{ℕ, _+_, _≤_, _<_}
 use native.Mathlib.Omega.{arith}
-use borrow.Author.Tests.{lt-leb, le-ltb}
+use borrow.Author.Tests.{lt-ltb, le-ltb}
 use lib.ListN.{length, getD, length-append}
 use lib.Seq.{getD-append-seam, getD-append-add}
+use Rattle.model.specs.Causes.{firstOr}
 use Rattle.commands.specs.declared.Width.the-variants.{Known}
 use Rattle.commands.specs.declared.Command.the-variants.{Boards, Later}
 use Rattle.commands.specs.declared.Item.the-variants.{Link, Pick, End}
-use Rattle.commands.specs.Commands.{misplaced, lookup, widthOf, refuse, commandOf, commandAt}
+use Rattle.commands.specs.Commands.{misplaced, lookup, widthOf, commandOf, commandAt}
 
 -- a command byte in its place, with its k operands behind it, is taken apart to what it says, whatever stands before and after
 pub command-here : (first : Bool) (pre rest : List ℕ) (c k : ℕ) → misplaced first c ≡ false → widthOf c ≡ Known k → k ≤ length rest
     → commandAt first (pre ++ (c ∷ rest)) (length pre) ≡ commandOf c (getD rest 0 0) (getD rest 1 0)
-unfolding commandAt refuse
+unfolding commandAt firstOr
 command-here first pre rest c k e w h =
     let l : length pre < length (pre ++ (c ∷ rest)) = rw length-append (omega arith) in
     let m : length pre + 1 + k ≤ length (pre ++ (c ∷ rest)) = rw length-append (omega arith) in
     let x : getD (pre ++ (c ∷ rest)) (length pre + 1) 0 ≡ getD rest 0 0 = getD-append-add pre (c ∷ rest) 1 0 in
     let y : getD (pre ++ (c ∷ rest)) (length pre + 2) 0 ≡ getD rest 1 0 = getD-append-add pre (c ∷ rest) 2 0 in
-    simp (lt-leb _ _ l, getD-append-seam pre c rest 0, e, w, le-ltb _ _ m, x, y)
+    simp (lt-ltb _ _ l, getD-append-seam pre c rest 0, e, w, le-ltb _ _ m, x, y)
 
 module _ (pre post : List ℕ) where
   pub boards-here : (n : ℕ) → commandAt true (pre ++ (0x42 ∷ n ∷ post)) (length pre) ≡ Boards n
@@ -32,7 +33,8 @@ module _ (pre post : List ℕ) where
   unfolding widthOf lookup commandOf
   opens-here a b = command-here false pre (a ∷ b ∷ post) 0x4F 2 refl refl (omega arith)
 
-  pub shuts-here : (a b : ℕ) → commandAt false (pre ++ (0x53 ∷ a ∷ b ∷ post)) (length pre) ≡ Later (Link (record { 0 = a }) (record { 0 = b }) false)
+  pub shuts-here : (a b : ℕ) → commandAt false (pre ++ (0x53 ∷ a ∷ b ∷ post)) (length pre)
+      ≡ Later (Link (record { 0 = a }) (record { 0 = b }) false)
   unfolding widthOf lookup commandOf
   shuts-here a b = command-here false pre (a ∷ b ∷ post) 0x53 2 refl refl (omega arith)
 

@@ -1,7 +1,7 @@
 -- The table of commands: a search from an index on ends at the entry there or goes on behind it; and the rule of the entries.
 -- Assumes nothing.
 use mathlib.Core.Path.{_≡_, refl, sym}
-use mathlib.Core.Bool.{Bool, true, false}
+use mathlib.Core.Bool.{Bool, true, false, cond}
 use mathlib.Core.List.{List, [], _∷_}
 use Prim.Native.Nat.{ℕ, _+_, _<_, _≤_}
 use native.Mathlib.Numerals.{add-one}
@@ -13,7 +13,7 @@ use lib.Dec.{T, eqb, eqb→eq}
 use Rattle.model.proofs.Logic.{and-l, and-r}
 use Rattle.commands.specs.declared.Shape.{Shape}
 use Rattle.commands.specs.declared.Width.the-variants.{Known, Unknown}
-use Rattle.commands.specs.Commands.{shapes, known, lookup, widthOf, commandOf, operandsIn, isWidth, ruled, everyShape}
+use Rattle.commands.specs.Commands.{shapes, lookup, widthOf, commandOf, operandsIn, isWidth, ruled, everyShape}
 
 module _ (ss : List Shape) (i b : ℕ) (d : Shape) (h : i < length ss) where
   pub lookup-hit : getD ss i d .byte ≡ b → lookup (drop i ss) b ≡ Known (getD ss i d .operands)
@@ -38,7 +38,7 @@ unfolding lookup
 by-shape P [] a b k e = let z : _≡_ {A = ℕ} 0 1 = cc in absurd (omega arith)
 by-shape P (s ∷ ss) a b k e = by (eqb (s .byte) b) refl e (by-shape P ss (a .1) b k)
   where
-    by : (x : Bool) → eqb (s .byte) b ≡ x → known x (Known (s .operands)) (lookup ss b) ≡ Known k → (lookup ss b ≡ Known k → P b k) → P b k
+    by : (x : Bool) → eqb (s .byte) b ≡ x → cond x (Known (s .operands)) (lookup ss b) ≡ Known k → (lookup ss b ≡ Known k → P b k) → P b k
     by true q i more =
         let f : s .byte ≡ b = eqb-true (s .byte) b q in
         let o : s .operands ≡ k = cc in

@@ -1,10 +1,10 @@
 -- The commands of a recording file: 01's table of operand counts, and a command taken apart at a place of the file.
-use mathlib.Core.Bool.{Bool, true, false, not, _&&_}
+use mathlib.Core.Bool.{Bool, true, false, not, _&&_, _||_, cond}
 use mathlib.Core.List.{List, [], _∷_}
 use Prim.Native.Nat.{ℕ, _+_}
-use lib.Dec.{eqb, ltb, leb}
+use lib.Dec.{eqb, ltb}
 use lib.ListN.{length, getD}
-use Rattle.model.specs.declared.Refusal.{Refusal}
+use Rattle.model.specs.Causes.{RefusalCauses, firstOr}
 use Rattle.model.specs.declared.Refusal.the-variants as cause
 use Rattle.commands.specs.declared.Shape.{Shape}
 use Rattle.commands.specs.declared.Width.{Width}
@@ -23,52 +23,50 @@ shapes =
     ∷ record { byte = 0x45; operands = 0 }
     ∷ []
 
-abbrev pub known : Bool → Width → Width → Width
-known true a b = a
-known false a b = b
-
 -- the first entry with that byte
 unfoldable pub lookup : List Shape → ℕ → Width
 lookup [] b = Unknown
-lookup (s ∷ ss) b = known (eqb (s .byte) b) (Known (s .operands)) (lookup ss b)
+lookup (s ∷ ss) b = cond (eqb (s .byte) b) (Known (s .operands)) (lookup ss b)
 
 unfoldable pub widthOf : ℕ → Width
 unfolding lookup
 widthOf b = lookup shapes b
 
--- a cause that holds refuses the command; otherwise what follows is looked at
-unfoldable pub refuse : Bool → Refusal → Command → Command
-refuse true r c = Not r
-refuse false r c = c
-
-abbrev pub either : Bool → Command → Command → Command
-either true a b = a
-either false a b = b
-
 -- a known command byte with its operands; 4F opens a link, 53 shuts it
 unfoldable pub commandOf : ℕ → ℕ → ℕ → Command
 commandOf b x y =
-    either (eqb b 0x42) (Boards x)
-    (either (eqb b 0x4F) (Later (Link (record { 0 = x }) (record { 0 = y }) true))
-    (either (eqb b 0x53) (Later (Link (record { 0 = x }) (record { 0 = y }) false))
-    (either (eqb b 0x50) (Later Pick) (Later End))))
+    cond (eqb b 0x42) (Boards x)
+    (cond (eqb b 0x4F) (Later (Link (record { 0 = x }) (record { 0 = y }) true))
+    (cond (eqb b 0x53) (Later (Link (record { 0 = x }) (record { 0 = y }) false))
+    (cond (eqb b 0x50) (Later Pick) (Later End))))
 
 -- 42 stands first, and only there
 abbrev pub misplaced : Bool → ℕ → Bool
 misplaced true b = not (eqb b 0x42)
 misplaced false b = eqb b 0x42
 
-abbrev pub takenApart : Width → List ℕ → ℕ → Command
-takenApart Unknown bytes at = Not cause.Command
-takenApart (Known k) bytes at =
-    refuse (ltb (length bytes) (at + 1 + k)) cause.Stopped (commandOf (getD bytes at 0) (getD bytes (at + 1) 0) (getD bytes (at + 2) 0))
+abbrev pub isUnknown : Width → Bool
+isUnknown (Known k) = false
+isUnknown Unknown = true
 
--- the command at a place of the file: 12 where the file has stopped, 11 for its byte, 12 inside its operands
+abbrev pub operandsOf : Width → ℕ
+operandsOf (Known k) = k
+operandsOf Unknown = 0
+
+-- 11: a byte is there, and it is unknown or not in its place; 12: the file stops before it or inside its operands
+abbrev pub unreadable : Bool → List ℕ → ℕ → RefusalCauses
+unreadable first bytes at =
+    (ltb at (length bytes) && (misplaced first (getD bytes at 0) || isUnknown (widthOf (getD bytes at 0))), cause.Command)
+    ∷ (ltb (length bytes) (at + 1 + operandsOf (widthOf (getD bytes at 0))), cause.Stopped)
+    ∷ []
+
+-- what the bytes at a place of the file say, where nothing refuses them
+abbrev pub spelledAt : List ℕ → ℕ → Command
+spelledAt bytes at = commandOf (getD bytes at 0) (getD bytes (at + 1) 0) (getD bytes (at + 2) 0)
+
+-- the command at a place of the file, taken apart
 unfoldable pub commandAt : Bool → List ℕ → ℕ → Command
-commandAt first bytes at =
-    refuse (leb (length bytes) at) cause.Stopped
-    (refuse (misplaced first (getD bytes at 0)) cause.Command
-    (takenApart (widthOf (getD bytes at 0)) bytes at))
+commandAt first bytes at = firstOr Not (unreadable first bytes at) (spelledAt bytes at)
 
 -- ---- the rule of the table
 

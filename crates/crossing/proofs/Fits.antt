@@ -6,37 +6,17 @@ use native.Mathlib.Nat.{lt-of-le-of-lt}
 use native.Mathlib.Omega.{arith}
 use lib.Dec.{eqb, lit<}
 use borrow.Author.Tests.{leb-true}
-use Rattle.model.specs.declared.Refusal.{Refusal}
-use Rattle.model.specs.declared.Refusal.the-variants.{Boards, Measure, Picks, Room, Forbidden, Unlisted, Full, NoPick, NoLength, Shape, Command, Stopped, Operands, Unchanged, Trailing, BadPlace}
-use Rattle.model.specs.Refusals.{number}
 use Rattle.model.specs.Journey.{val}
 use Rattle.place.specs.declared.Place.{Place}
+use Rattle.place.specs.Places.{mostCounted}
 use Rattle.place.proofs.Laws.{and-left, and-right}
 use Rattle.calls.specs.Answers.{Handed, handed}
 use Rattle.crossing.specs.declared.PlaceWords.{PlaceWords}
 use Rattle.crossing.specs.Words.{flag, flags, placeOf, wordsOf, handedAs, handedWords}
 
 -- far below what a word holds
-pub small : {x : ℕ} → x ≤ 100000000 → x < 2 ^ 32
+pub small : {x : ℕ} → x ≤ mostCounted → x < 2 ^ 32
 small h = lt-of-le-of-lt h (lit< tt)
-
-pub number-small : (c : Refusal) → number c < 2 ^ 32
-number-small Boards = lit< tt
-number-small Measure = lit< tt
-number-small Picks = lit< tt
-number-small Room = lit< tt
-number-small Forbidden = lit< tt
-number-small Unlisted = lit< tt
-number-small Full = lit< tt
-number-small NoPick = lit< tt
-number-small NoLength = lit< tt
-number-small Shape = lit< tt
-number-small Command = lit< tt
-number-small Stopped = lit< tt
-number-small Operands = lit< tt
-number-small Unchanged = lit< tt
-number-small Trailing = lit< tt
-number-small BadPlace = lit< tt
 
 -- ---- places as words
 

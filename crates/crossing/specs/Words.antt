@@ -24,31 +24,25 @@ flags p = flag (p .failed) && flag (p .passed)
 -- the place that ten words stand for, where the flags are flags
 unfoldable pub placeOf : PlaceWords → Place
 placeOf p = record {
-  boards = p .boards;
-  measure = p .measure;
-  limit = p .limit;
-  taken = record { 0 = p .taken };
-  start = record { 0 = p .start };
-  boundary = record { 0 = p .boundary };
-  failed = eqb (p .failed) 1;
-  passed = eqb (p .passed) 1;
-  compositions = record { 0 = p .compositions };
-  tests = record { 0 = p .tests };
+  settings = record { boards = p .boards; measure = p .measure; limit = p .limit };
+  window = record { taken = record { 0 = p .taken }; start = record { 0 = p .start }; boundary = record { 0 = p .boundary } };
+  marks = record { failed = eqb (p .failed) 1; passed = eqb (p .passed) 1 };
+  counts = record { compositions = record { 0 = p .compositions }; tests = record { 0 = p .tests } };
 }
 
 -- the ten words of a place
 unfoldable pub wordsOf : Place → PlaceWords
 wordsOf p = record {
-  boards = p .boards;
-  measure = p .measure;
-  limit = p .limit;
-  taken = p .taken .0;
-  start = p .start .0;
-  boundary = p .boundary .0;
-  failed = val (p .failed);
-  passed = val (p .passed);
-  compositions = p .compositions .0;
-  tests = p .tests .0;
+  boards = p .settings .boards;
+  measure = p .settings .measure;
+  limit = p .settings .limit;
+  taken = p .window .taken .0;
+  start = p .window .start .0;
+  boundary = p .window .boundary .0;
+  failed = val (p .marks .failed);
+  passed = val (p .marks .passed);
+  compositions = p .counts .compositions .0;
+  tests = p .counts .tests .0;
 }
 
 -- ---- answers
@@ -71,14 +65,14 @@ readingWords r = record { refusal = r .refusal; boards = r .boards; picks = r .p
 -- ---- what a word of 32 bits holds, so that no number is cut short on its way to C
 
 pub record Narrow (p : Place) : Type 0 where
-  pub boards : p .boards < 2 ^ 32
-  pub measure : p .measure < 2 ^ 32
-  pub limit : p .limit < 2 ^ 32
-  pub taken : p .taken .0 < 2 ^ 32
-  pub start : p .start .0 < 2 ^ 32
-  pub boundary : p .boundary .0 < 2 ^ 32
-  pub compositions : p .compositions .0 < 2 ^ 32
-  pub tests : p .tests .0 < 2 ^ 32
+  pub boards : p .settings .boards < 2 ^ 32
+  pub measure : p .settings .measure < 2 ^ 32
+  pub limit : p .settings .limit < 2 ^ 32
+  pub taken : p .window .taken .0 < 2 ^ 32
+  pub start : p .window .start .0 < 2 ^ 32
+  pub boundary : p .window .boundary .0 < 2 ^ 32
+  pub compositions : p .counts .compositions .0 < 2 ^ 32
+  pub tests : p .counts .tests .0 < 2 ^ 32
 
 pub record NarrowAnswer (o : Outcome) : Type 0 where
   pub length : o .length < 2 ^ 32

@@ -10,7 +10,11 @@ use model::Compositions;
 use model::Pick;
 use model::Refusal;
 use model::Tests;
+use place::Counts;
 use place::Place;
+use place::Settings;
+use place::TestMarks;
+use place::Window;
 
 // The place as ten words. A flag is 0 for no and 1 for yes.
 #[repr(C)]
@@ -102,16 +106,24 @@ pub fn place_of(p: PlaceWords) -> Place
     ensures { λ r. ⌜ r ≡ placeOf p ⌝ }
 {
     Place {
-        boards: wide(p.boards),
-        measure: wide(p.measure),
-        limit: wide(p.limit),
-        taken: Pick(wide(p.taken)),
-        start: Pick(wide(p.start)),
-        boundary: Pick(wide(p.boundary)),
-        failed: p.failed == 1,
-        passed: p.passed == 1,
-        compositions: Compositions(wide(p.compositions)),
-        tests: Tests(wide(p.tests)),
+        settings: Settings {
+            boards: wide(p.boards),
+            measure: wide(p.measure),
+            limit: wide(p.limit),
+        },
+        window: Window {
+            taken: Pick(wide(p.taken)),
+            start: Pick(wide(p.start)),
+            boundary: Pick(wide(p.boundary)),
+        },
+        marks: TestMarks {
+            failed: p.failed == 1,
+            passed: p.passed == 1,
+        },
+        counts: Counts {
+            compositions: Compositions(wide(p.compositions)),
+            tests: Tests(wide(p.tests)),
+        },
     }
 }
 
@@ -119,20 +131,20 @@ pub fn words_of(p: Place) -> PlaceWords
     requires { ⌜ Narrow p ⌝ }
     ensures { λ r. ⌜ r ≡ wordsOf p ⌝ }
 {
-    let m = p.taken;
-    let s = p.start;
-    let b = p.boundary;
-    let c = p.compositions;
-    let t = p.tests;
+    let m = p.window.taken;
+    let s = p.window.start;
+    let b = p.window.boundary;
+    let c = p.counts.compositions;
+    let t = p.counts.tests;
     PlaceWords {
-        boards: narrow(p.boards),
-        measure: narrow(p.measure),
-        limit: narrow(p.limit),
+        boards: narrow(p.settings.boards),
+        measure: narrow(p.settings.measure),
+        limit: narrow(p.settings.limit),
         taken: narrow(m.0),
         start: narrow(s.0),
         boundary: narrow(b.0),
-        failed: word_of(p.failed),
-        passed: word_of(p.passed),
+        failed: word_of(p.marks.failed),
+        passed: word_of(p.marks.passed),
         compositions: narrow(c.0),
         tests: narrow(t.0),
     }

@@ -1,11 +1,11 @@
 -- The better of two times: the words of it, and its laws. Assumes nothing.
 use mathlib.Core.Path.{_≡_, refl, sym, _∙_}
-use mathlib.Core.Bool.{Bool, true, false}
+use mathlib.Core.Bool.{Bool, true, false, cond}
 use Prim.Native.Nat.{ℕ, zero, suc, _+_, _%_, _≤_, _<_, _^_, min, max}
 use native.Mathlib.Omega.{arith}
 use lib.Dec.{eqb, leb, eqb·suc-zero, leb·suc-zero}
 use borrow.Author.Tests.{eqb-true, eqb-false, leb-true, leb-false, le-leb, lt-leb}
-use Rattle.times.specs.Times.{choose, sooner, later}
+use Rattle.times.specs.Times.{sooner, later}
 use Rattle.folds.specs.Folds.{better}
 
 -- ---- the earlier time, by words less one
@@ -15,7 +15,7 @@ module _ (a b x y : ℕ) (ha : a < 2 ^ 32) (hb : b < 2 ^ 32) (ea : (a + 1) % 2 ^
   unfolding sooner
   sooner-first h = by (eqb x 0) refl (eqb y 0) refl
     where
-      by : (p : Bool) → eqb x 0 ≡ p → (q : Bool) → eqb y 0 ≡ q → x ≡ choose p y (choose q x (choose (leb x y) x y))
+      by : (p : Bool) → eqb x 0 ≡ p → (q : Bool) → eqb y 0 ≡ q → x ≡ cond p y (cond q x (cond (leb x y) x y))
       by true e q f = let z = eqb-true x 0 e in omega arith
       by false e true f = refl
       by false e false f = let k = eqb-false x 0 e in let l = eqb-false y 0 f in simp (le-leb x y (omega arith))
@@ -24,7 +24,7 @@ module _ (a b x y : ℕ) (ha : a < 2 ^ 32) (hb : b < 2 ^ 32) (ea : (a + 1) % 2 ^
   unfolding sooner
   sooner-second h = by (eqb x 0) refl (eqb y 0) refl
     where
-      by : (p : Bool) → eqb x 0 ≡ p → (q : Bool) → eqb y 0 ≡ q → y ≡ choose p y (choose q x (choose (leb x y) x y))
+      by : (p : Bool) → eqb x 0 ≡ p → (q : Bool) → eqb y 0 ≡ q → y ≡ cond p y (cond q x (cond (leb x y) x y))
       by true e q f = refl
       by false e true f = let z = eqb-true y 0 f in absurd (omega arith)
       by false e false f = let k = eqb-false x 0 e in let l = eqb-false y 0 f in simp (lt-leb x y (omega arith))
@@ -52,7 +52,7 @@ later-max : (x y : ℕ) → later x y ≡ max x y
 unfolding later
 later-max x y = by (leb x y) refl
   where
-    by : (p : Bool) → leb x y ≡ p → choose p y x ≡ max x y
+    by : (p : Bool) → leb x y ≡ p → cond p y x ≡ max x y
     by true e = let h = leb-true x y e in omega arith
     by false e = let h = leb-false x y e in omega arith
 
@@ -60,7 +60,7 @@ sooner-suc : (a b : ℕ) → sooner (suc a) (suc b) ≡ suc (min a b)
 unfolding sooner
 sooner-suc a b = by (leb (suc a) (suc b)) refl
   where
-    by : (p : Bool) → leb (suc a) (suc b) ≡ p → choose (eqb (suc a) 0) (suc b) (choose (eqb (suc b) 0) (suc a) (choose p (suc a) (suc b))) ≡ suc (min a b)
+    by : (p : Bool) → leb (suc a) (suc b) ≡ p → cond (eqb (suc a) 0) (suc b) (cond (eqb (suc b) 0) (suc a) (cond p (suc a) (suc b))) ≡ suc (min a b)
     by true e = let h = leb-true (suc a) (suc b) e in simp eqb·suc-zero (omega arith)
     by false e = let h = leb-false (suc a) (suc b) e in simp eqb·suc-zero (omega arith)
 

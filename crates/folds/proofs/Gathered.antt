@@ -1,8 +1,8 @@
 -- Folds: the loops that make them, and that a row with its fold is the composition. Assumes nothing.
 use mathlib.Core.Path.{_≡_, refl, sym, ap, ap₂, _∙_, subst}
-use mathlib.Core.Bool.{Bool, true, false, not, _&&_, _||_}
+use mathlib.Core.Bool.{Bool, true, false, not, _&&_, _||_, cond}
 use mathlib.Core.List.{List, _++_}
-use Prim.Native.Nat.{ℕ, zero, suc, _+_, _-_, _*_, _^_, _≤_, _<_}
+use Prim.Native.Nat.{ℕ, zero, suc, _+_, _-_, _*_, _^_, _≤_, _<_, zero-le}
 use native.Mathlib.Nat.{sub-zero, suc-mul, mul-le-mul, mul-le-mul-right, le-refl, eq-or-lt-of-le, le-of-suc-le-suc, lt-of-lt-of-le}
 use mathlib.Core.Logic.{⊎-elim}
 use borrow.Author.Tests.{eq-eqb, ne-eqb, eqb-true, eqb-false}
@@ -13,12 +13,13 @@ use Rattle.model.proofs.Logic.{T→≡}
 use Rattle.model.proofs.Bits.{bit-high}
 use Rattle.links.specs.Tables.{without}
 use Rattle.links.proofs.Bits.{without-lt, bit-left, bit-out, bit-below, without-less}
-use lib.ListN.{length, getD, take, drop, List·getD-append}
+use lib.ListN.{length, getD, take, drop}
 use lib.Seq.{ext-getD, getD-take}
 use Rattle.model.specs.Recording.{bit}
 use Rattle.lists.specs.Tab.{tab, zeros, kept}
+use Rattle.lists.proofs.Splice.{word-inside}
 use Rattle.lists.proofs.Tab.{length-tab, getD-tab, tab-ext, tab-zero}
-use Rattle.times.specs.Times.{cell, rows, choose, sooner, later, after, apart, arriveBy, arrival, arrivals, departBy, departure, departures}
+use Rattle.times.specs.Times.{cell, rows, sooner, later, after, apart, arriveBy, arrival, arrivals, departBy, departure, departures}
 use Rattle.times.proofs.Rows.{cell-lt, row-le, part-length, Rowed}
 use Rattle.times.proofs.Cells.{length-rows, cell-rows}
 use Rattle.sets.specs.Marks.{someOf, setOf}
@@ -29,11 +30,13 @@ use Rattle.folds.proofs.Better.{better-none, better-assoc, better-comm,
 -- ---- the loops
 
 -- rows below board w do not look at its bit
-gather-same : (late : Bool) (n : ℕ) (t : List ℕ) (set w v k : ℕ) → w < 32 → k ≤ w → gather late n t (without set w) k v ≡ gather late n t set k v
+gather-same : (late : Bool) (n : ℕ) (t : List ℕ) (set w v k : ℕ) → w < 32 → k ≤ w
+    → gather late n t (without set w) k v ≡ gather late n t set k v
 unfolding gather
 gather-same late n t set w v zero h l = refl
 gather-same late n t set w v (suc k) h l =
-    ap₂ (λ (x : ℕ) (b : Bool). better late x (kept b (cell n t k v))) (gather-same late n t set w v k h (omega arith)) (bit-left set w k h (omega arith) (omega arith))
+    ap₂ (λ (x : ℕ) (b : Bool). better late x (kept b (cell n t k v))) (gather-same late n t set w v k h (omega arith))
+    (bit-left set w k h (omega arith) (omega arith))
 
 -- row w taken out of a set that has it
 gather-out : (late : Bool) (n : ℕ) (t : List ℕ) (set w v k : ℕ) → w < k → k ≤ 32 → T (bit set w)
@@ -50,8 +53,7 @@ gather-out late n t set w v (suc k) h l b =
     own : better late (gather late n t set w v) (kept (bit set w) (cell n t w v))
         ≡ better late (cell n t w v) (better late (gather late n t (without set w) w v) (kept (bit (without set w) w) (cell n t w v)))
     own =
-        rw (T→≡ (bit set w) b, bit-out set w (omega arith), gather-same late n t set w v w (omega arith) (le-refl w), better-none late (gather late n t set w v))
-        (better-comm late _ _)
+        rw (T→≡ (bit set w) b, bit-out set w (omega arith), gather-same late n t set w v w (omega arith) (le-refl w), better-none) (better-comm late _ _)
 
 gather-empty : (late : Bool) (n : ℕ) (t : List ℕ) (v k : ℕ) → gather late n t 0 k v ≡ 0
 unfolding gather
@@ -62,7 +64,8 @@ pub fold-empty : (late : Bool) (n : ℕ) (t : List ℕ) {set : ℕ} {xs : List �
 fold-empty late n t e q = q ∙ sym (tab-zero n) ∙ tab-ext _ _ n (λ v h. sym (rw e (gather-empty late n t v n)))
 
 -- the first row, then the others
-pub fold-first : (late : Bool) (n : ℕ) (t : List ℕ) (set w : ℕ) {left : ℕ} {row xs : List ℕ} → n ≤ 32 → w < n → T (bit set w) → left ≡ without set w
+pub fold-first : (late : Bool) (n : ℕ) (t : List ℕ) (set w : ℕ) {left : ℕ} {row xs : List ℕ} → n ≤ 32 → w < n → T (bit set w)
+    → left ≡ without set w
     → row ≡ take (w * n + n - w * n) (drop (w * n) t) → xs ≡ tab (withFold late n t left row) n → xs ≡ tab (gather late n t set n) n
 unfolding withFold
 fold-first late n t set w n32 h b l e q =
@@ -74,7 +77,8 @@ pub record Folded (late : Bool) (n : ℕ) (t : List ℕ) (set : ℕ) (row₀ out
   pub small : rest < 2 ^ n
   pub made : (v : ℕ) → v < n → withFold late n t rest out v ≡ withFold late n t set row₀ v
 
-pub folded-start : {late : Bool} {n : ℕ} {t : List ℕ} {set : ℕ} {row₀ : List ℕ} → n ≡ length row₀ → set < 2 ^ n → Folded late n t set row₀ row₀ set
+pub folded-start : {late : Bool} {n : ℕ} {t : List ℕ} {set : ℕ} {row₀ : List ℕ} → n ≡ length row₀ → set < 2 ^ n
+    → Folded late n t set row₀ row₀ set
 folded-start e h = record { size = e; small = h; made = λ v l. refl }
 
 module _ {late : Bool} {n : ℕ} {t : List ℕ} {set : ℕ} {row₀ out : List ℕ} {rest : ℕ} (m : Folded late n t set row₀ out rest) where
@@ -99,7 +103,8 @@ module _ {late : Bool} {n : ℕ} {t : List ℕ} {set : ℕ} {row₀ out : List �
   folded-all e =
       ext-getD 0 out (tab (withFold late n t set row₀) n) (sym (m .size) ∙ sym (length-tab _ n))
       (λ v l. let h : v < n = omega (arith, m .size) in
-      sym (better-none late _) ∙ ap (better late (getD out v 0)) (sym (rw e (gather-empty late n t v n))) ∙ m .made v h ∙ sym (getD-tab (withFold late n t set row₀) n v h))
+      sym (better-none late _) ∙ ap (better late (getD out v 0)) (sym (rw e (gather-empty late n t v n))) ∙ m .made v h
+      ∙ sym (getD-tab (withFold late n t set row₀) n v h))
 
 -- a row with its fold, as they are lent
 pub joined-lent : (late : Bool) (n u : ℕ) (s f : List ℕ)
@@ -118,14 +123,16 @@ lent-row n u xs g h e =
     (λ v b. let k : v < n = omega arith in row-cell n u xs v k ∙ e v k ∙ sym (getD-tab g n v k))
 
 -- the fold of an earlier row with the same set
-pub same-fold : (late : Bool) (n : ℕ) (t sets : List ℕ) (u : ℕ) (folds : List ℕ) (k : ℕ) → Shared late n t sets u folds → k < u → getD sets k 0 ≡ getD sets u 0
+pub same-fold : (late : Bool) (n : ℕ) (t sets : List ℕ) (u : ℕ) (folds : List ℕ) (k : ℕ) → Shared late n t sets u folds → k < u
+    → getD sets k 0 ≡ getD sets u 0
     → take (k * n + n - k * n) (drop (k * n) folds) ≡ tab (foldOf late n t sets u) n
 same-fold late n t sets u folds k s h e =
     let b : k < n = omega (arith, s .below) in
     lent-row n k folds _ (omega (arith, row-le n b, s .room)) (λ v l. s .made k v h l ∙ ap (λ (x : ℕ). gather late n t x n v) e)
 
 -- the folds below u are made
-pub shared : {late : Bool} {n : ℕ} {t sets folds₀ folds : List ℕ} {u : ℕ} → n ≤ 32 → n ≤ length sets → n * n ≤ length t → Small n sets → u < n
+pub shared : {late : Bool} {n : ℕ} {t sets folds₀ folds : List ℕ} {u : ℕ} → n ≤ 32 → n ≤ length sets → n * n ≤ length t
+    → Small n sets → u < n
     → Rowed n (foldOf late n t sets) folds₀ folds u → Shared late n t sets u folds
 shared {late} {n} {t} {sets} {folds₀} {folds} {u} few words table small below m = record {
   few = few;
@@ -135,8 +142,8 @@ shared {late} {n} {t} {sets} {folds₀} {folds} {u} few words table small below 
   room = omega (arith, m .long);
   small = small .small u below;
   made = λ k v h l. rw (m .made)
-      (List·getD-append (rows n (foldOf late n t sets) u) (drop (u * n) folds₀) 0 (k * n + v)
-      (omega (arith, length-rows n (foldOf late n t sets) u, mul-le-mul-right n h, suc-mul k n)) ∙ cell-rows n (foldOf late n t sets) u k v h l);
+      (word-inside 0 (u * n) (rows n (foldOf late n t sets) u) folds₀ (length-rows n (foldOf late n t sets) u) zero-le (k * n + v) (k * n + v)
+      (omega arith) (omega (arith, mul-le-mul-right n h, suc-mul k n)) ∙ cell-rows n (foldOf late n t sets) u k v h l);
 }
 
 -- ---- a row with its fold is the composition
@@ -172,7 +179,7 @@ module _ (late : Bool) (n : ℕ) (s t : List ℕ) (u v : ℕ) (hu : u < n) (hv :
   unfolding after
   gives-after k h e = gives k h ∙ rw e (by (eqb (cell n s u k) 0))
     where
-      by : (b : Bool) → kept (not b || false) (cell n t k v) ≡ choose b 0 (cell n t k v)
+      by : (b : Bool) → kept (not b || false) (cell n t k v) ≡ cond b 0 (cell n t k v)
       by true = refl
       by false = refl
 
@@ -188,7 +195,7 @@ module _ (late : Bool) (n : ℕ) (s t : List ℕ) (u v : ℕ) (hu : u < n) (hv :
   unfolding after
   own-twice x = by (eqb (cell n s u u) 0)
     where
-      by : (b : Bool) → better late x (cell n t u v) ≡ better late (cell n t u v) (better late x (choose b 0 (cell n t u v)))
+      by : (b : Bool) → better late x (cell n t u v) ≡ better late (cell n t u v) (better late x (cond b 0 (cell n t u v)))
       by true = better-comm late x _ ∙ ap (better late (cell n t u v)) (sym (better-none late x))
       by false =
           ap (better late x) (sym (better-self late _)) ∙ sym (better-assoc late x _ _)
@@ -205,7 +212,8 @@ module _ (late : Bool) (n : ℕ) (s t : List ℕ) (u v : ℕ) (hu : u < n) (hv :
   unfolding gather over
   gather-from zero h l = absurd (omega arith)
   gather-from (suc k) h l =
-      ⊎-elim (λ (e : u ≡ k). subst (λ (i : ℕ). better late (gather late n t set i v) (kept (bit set i) (cell n t i v)) ≡ better late (cell n t u v) (better late (over i) (after (cell n s u i) (cell n t i v)))) e
+      ⊎-elim (λ (e : u ≡ k). subst (λ (i : ℕ). better late (gather late n t set i v) (kept (bit set i) (cell n t i v))
+      ≡ better late (cell n t u v) (better late (over i) (after (cell n s u i) (cell n t i v)))) e
       (ap₂ (better late) (gather-before u (le-refl u)) gives-own ∙ own-twice (over u)))
       (λ (m : u < k). ap₂ (better late) (gather-from k m (omega arith)) (gives-after k (omega arith) (ne-eqb u k (omega arith))) ∙ better-assoc late _ _ _)
       (eq-or-lt-of-le (le-of-suc-le-suc h))
@@ -230,7 +238,8 @@ crossed-rows late n s t sets folds e f = rows-ext n _ _ n row
     row u v hu hv =
         let a : cell n folds u v ≡ foldOf late n t sets u v = rw f (cell-rows n (foldOf late n t sets) n u v hu hv) in
         let b : getD sets u 0 ≡ setOf (cell n s u) n (someOf n t) u = rw e (getD-tab (λ i. setOf (cell n s i) n (someOf n t) i) n u hu) in
-        ap (λ (x : ℕ). apart u v (better late (cell n s u v) x)) (a ∙ ap (λ (x : ℕ). gather late n t x n v) b) ∙ sym (cross-gather late n s t u v hu hv)
+        ap (λ (x : ℕ). apart u v (better late (cell n s u v) x)) (a ∙ ap (λ (x : ℕ). gather late n t x n v) b)
+        ∙ sym (cross-gather late n s t u v hu hv)
 
 -- ---- local arrays
 
@@ -243,7 +252,8 @@ square h = mul-le-mul h h
 first-cell : (n : ℕ) (s : List ℕ) (u v : ℕ) → u < n → v < n → cell n (take (n * n - 0) s) u v ≡ cell n s u v
 first-cell n s u v hu hv = rw sub-zero (getD-take (n * n) s (u * n + v) 0 (cell-lt n hu hv))
 
-cross-arrive : (n : ℕ) (s t : List ℕ) (k u v : ℕ) → k ≤ n → u < n → v < n → crossBy false n (take (n * n - 0) s) t k u v ≡ arriveBy n s t k u v
+cross-arrive : (n : ℕ) (s t : List ℕ) (k u v : ℕ) → k ≤ n → u < n → v < n
+    → crossBy false n (take (n * n - 0) s) t k u v ≡ arriveBy n s t k u v
 unfolding crossBy arriveBy better
 cross-arrive n s t zero u v h hu hv = ap (λ (x : ℕ). sooner x (cell n t u v)) (first-cell n s u v hu hv)
 cross-arrive n s t (suc k) u v h hu hv =
@@ -262,7 +272,7 @@ eqb-comm u v = by (eqb v u) refl
 
 apart-comm : (u v x : ℕ) → apart v u x ≡ apart u v x
 unfolding apart
-apart-comm u v x = ap (λ (b : Bool). choose b 0 x) (eqb-comm u v)
+apart-comm u v x = ap (λ (b : Bool). cond b 0 x) (eqb-comm u v)
 
 module _ (n : ℕ) (s t near far : List ℕ) (e : near ≡ rows n (turned n t) n) (f : far ≡ rows n (turned n s) n) where
   cross-depart : (k u v : ℕ) → k ≤ n → u < n → v < n → crossBy true n near far k v u ≡ departBy n s t k u v
@@ -287,10 +297,12 @@ module _ (n : ℕ) (s t near far : List ℕ) (e : near ≡ rows n (turned n t) n
   cross-column sets q u v hu hv =
       let a : getD sets v 0 ≡ columnSet n t far v = rw q (getD-tab (columnSet n t far) n v hv) in
       let d = a ∙ set-ext (λ w. cell n t w v) (cell n near v) n (someOf n far) v (λ w h. sym (near-cell v w hv h)) in
-      sym (apart-comm u v _) ∙ ap₂ (λ (x y : ℕ). apart v u (better true x (gather true n far y n u))) (sym (near-cell v u hv hu)) d ∙ sym (cross-gather true n near far v u hv hu) ∙ crossed-apart u v hu hv
+      sym (apart-comm u v _) ∙ ap₂ (λ (x y : ℕ). apart v u (better true x (gather true n far y n u))) (sym (near-cell v u hv hu)) d
+      ∙ sym (cross-gather true n near far v u hv hu) ∙ crossed-apart u v hu hv
 
 pub crossed-departures : (n : ℕ) (s t far sets folds back : List ℕ) → far ≡ rows n (turned n s) n → sets ≡ tab (columnSet n t far) n
-    → folds ≡ rows n (foldOf true n far sets) n → back ≡ rows n (turned n folds) n → rows n (λ u. joinedRow true (cell n t u) (cell n back u) u) n ≡ departures n s t
+    → folds ≡ rows n (foldOf true n far sets) n → back ≡ rows n (turned n folds) n
+    → rows n (λ u. joinedRow true (cell n t u) (cell n back u) u) n ≡ departures n s t
 unfolding departures
 crossed-departures n s t far sets folds back f q g k =
     rows-ext n _ _ n (λ u v hu hv.
@@ -301,4 +313,5 @@ crossed-departures n s t far sets folds back f q g k =
 -- ---- the sets that are made
 
 pub small-sets : (n : ℕ) (f : ℕ → ℕ → ℕ) (t sets : List ℕ) → sets ≡ tab (λ u. setOf (f u) n (someOf n t) u) n → Small n sets
-small-sets n f t sets e = record { small = λ u h. subst (λ (x : ℕ). x < 2 ^ n) (sym (rw e (getD-tab (λ i. setOf (f i) n (someOf n t) i) n u h))) (set-lt (f u) n t u) }
+small-sets n f t sets e =
+    record { small = λ u h. subst (λ (x : ℕ). x < 2 ^ n) (sym (rw e (getD-tab (λ i. setOf (f i) n (someOf n t) i) n u h))) (set-lt (f u) n t u) }

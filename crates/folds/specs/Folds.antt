@@ -2,7 +2,7 @@
 -- later time is the better one; for arrivals it is the earlier one.
 use mathlib.Core.Path.{_≡_}
 use mathlib.Core.Bool.{Bool, true, false}
-use mathlib.Core.List.{List, _++_}
+use mathlib.Core.List.{List}
 use Prim.Native.Nat.{ℕ, zero, suc, _+_, _-_, _*_, _^_, _≤_, _<_}
 use lib.ListN.{length, getD, take, drop}
 use Rattle.model.specs.Recording.{bit}
@@ -14,12 +14,9 @@ use Rattle.sets.specs.Marks.{someOf, setOf}
 abbrev pub each : (ℕ → ℕ → ℕ) → List ℕ → List ℕ → ℕ → ℕ
 each op xs ys v = op (getD xs v 0) (getD ys v 0)
 
--- row u of n words, as it is lent, and what a table is when it was written
+-- row u of n words, as it is lent
 abbrev pub rowAt : ℕ → List ℕ → ℕ → List ℕ
 rowAt n t u = take (u * n + n - u * n) (drop (u * n) t)
-
-abbrev pub putRow : ℕ → List ℕ → ℕ → List ℕ → List ℕ
-putRow n t u row = take (u * n) t ++ (row ++ drop (u * n + n - u * n) (drop (u * n) t))
 
 -- the better of two times, 0 for none
 unfoldable pub better : Bool → ℕ → ℕ → ℕ

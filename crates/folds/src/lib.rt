@@ -5,9 +5,9 @@ ghost use mathlib.Core.Path.{_≡_};
 ghost use mathlib.Core.Bool.{true, false};
 ghost use Prim.Native.Nat.{_+_, _*_, _^_, _≤_, _<_};
 ghost use lib.ListN.{length, getD};
-ghost use Rattle.lists.specs.Tab.{tab, zeros};
+ghost use Rattle.lists.specs.Tab.{tab, zeros, splice};
 ghost use Rattle.times.specs.Times.{cell, rows, sooner, later, departures, composeTimes};
-ghost use Rattle.folds.specs.Folds.{each, better, rowAt, putRow, gather, withFold, foldOf, joinedRow, turned, columnSet, crossed, Small, Shared};
+ghost use Rattle.folds.specs.Folds.{each, better, rowAt, gather, withFold, foldOf, joinedRow, turned, columnSet, crossed, Small, Shared};
 use model::Board;
 
 // ---- a row taken in
@@ -93,7 +93,7 @@ fn fold_row(out: &mut [u32], later: &[u32], n: usize, set: u32, late: bool)
 // Row d becomes row l, through a lent row: a part that is written and one that is read cannot be lent together.
 fn share_by(folds: &mut [u32], row: &mut [u32], n: usize, d: Board, l: Board)
     requires { ⌜ (d .0 < n) × ((l .0 < n) × ((n ≡ length (now row)) × (n * n ≤ length (now folds)))) ⌝ }
-    ensures { λ _. ⌜ now (folds .exit) ≡ putRow n (now (folds .entry)) (d .0) (rowAt n (now (folds .entry)) (l .0)) ⌝ }
+    ensures { λ _. ⌜ now (folds .exit) ≡ splice (d .0 * n) n (rowAt n (now (folds .entry)) (l .0)) (now (folds .entry)) ⌝ }
 {
     let from = l.0 * n;
     let at = d.0 * n;
@@ -103,7 +103,7 @@ fn share_by(folds: &mut [u32], row: &mut [u32], n: usize, d: Board, l: Board)
 
 fn share(folds: &mut [u32], n: usize, d: Board, l: Board)
     requires { ⌜ (n ≤ 32) × ((d .0 < n) × ((l .0 < n) × (n * n ≤ length (now folds)))) ⌝ }
-    ensures { λ _. ⌜ now (folds .exit) ≡ putRow n (now (folds .entry)) (d .0) (rowAt n (now (folds .entry)) (l .0)) ⌝ }
+    ensures { λ _. ⌜ now (folds .exit) ≡ splice (d .0 * n) n (rowAt n (now (folds .entry)) (l .0)) (now (folds .entry)) ⌝ }
 {
     let mut row = lists::no_words();
     share_by(folds, &mut row[0..n], n, d, l);
@@ -112,7 +112,8 @@ fn share(folds: &mut [u32], n: usize, d: Board, l: Board)
 // The fold of row u: that of an earlier row with the same set, where there is one.
 fn write_fold(folds: &mut [u32], later: &[u32], sets: &[u32], n: usize, own: Board, late: bool)
     requires { ⌜ Shared late n (now later) (now sets) (own .0) (now folds) ⌝ }
-    ensures { λ _. ⌜ now (folds .exit) ≡ putRow n (now (folds .entry)) (own .0) (tab (foldOf late n (now (later .entry)) (now (sets .entry)) (own .0)) n) ⌝ }
+    ensures { λ _. ⌜ now (folds .exit)
+        ≡ splice (own .0 * n) n (tab (foldOf late n (now (later .entry)) (now (sets .entry)) (own .0)) n) (now (folds .entry)) ⌝ }
 {
     let u = own.0;
     let k = sets::first_same(sets, u);
@@ -231,7 +232,8 @@ fn cross_rows(out: &mut [u32], half: &[u32], folds: &[u32], n: usize)
 // The earlier part turned, in far, and the sets of the columns of the later part.
 fn column_sets(sets: &mut [u32], far: &mut [u32], left: &[u32], right: &[u32], n: usize)
     requires { ⌜ (n ≤ 32) × ((n * n ≤ length (now left)) × ((n * n ≤ length (now right)) × ((n ≡ length (now sets)) × (n * n ≡ length (now far))))) ⌝ }
-    ensures { λ _. ⌜ (now (far .exit) ≡ rows n (turned n (now (left .entry))) n) × (now (sets .exit) ≡ tab (columnSet n (now (right .entry)) (now (far .exit))) n) ⌝ }
+    ensures { λ _. ⌜ (now (far .exit) ≡ rows n (turned n (now (left .entry))) n)
+        × (now (sets .exit) ≡ tab (columnSet n (now (right .entry)) (now (far .exit))) n) ⌝ }
 {
     turn(far, left, n);
     let some = sets::some_rows(far, n);
@@ -254,7 +256,8 @@ fn depart(half: &mut [u32], right: &[u32], sets: &mut [u32], far: &mut [u32], n:
 
 // Both halves, with room lent for sets and for a table.
 fn compose_in(t: &mut [u32], right: &[u32], sets: &mut [u32], room: &mut [u32], n: usize)
-    requires { ⌜ (n ≤ 32) × ((n * n + n * n ≡ length (now t)) × ((n * n + n * n ≤ length (now right)) × ((n ≡ length (now sets)) × (n * n ≡ length (now room))))) ⌝ }
+    requires { ⌜ (n ≤ 32) × ((n * n + n * n ≡ length (now t)) × ((n * n + n * n ≤ length (now right))
+        × ((n ≡ length (now sets)) × (n * n ≡ length (now room))))) ⌝ }
     ensures { λ _. ⌜ now (t .exit) ≡ composeTimes n (now (t .entry)) (now (right .entry)) ⌝ }
 {
     let m = n * n;

@@ -33,8 +33,10 @@ module _ {t : List ℕ} where
   parted (one l) = inl (1, one l)
   parted {k} {v = v} (more {u = u} {w = w} l h p) =
       ⊎-elim
-      (λ (e : w ≡ k). ⊎-elim (λ (q : Led t k w v). inr ((1, one (to e)), subst (λ (x : ℕ). Led t k x v) e q)) (λ (q : Led t k w k × Led t k k v). inr ((1, one (to e)), q .1)) (parted p))
-      (λ (h′ : w < k). ⊎-elim (λ (q : Led t k w v). inl (suc (q .0), more l h′ (q .1))) (λ (q : Led t k w k × Led t k k v). inr ((suc (q .0 .0), more l h′ (q .0 .1)), q .1)) (parted p))
+      (λ (e : w ≡ k). ⊎-elim (λ (q : Led t k w v). inr ((1, one (to e)), subst (λ (x : ℕ). Led t k x v) e q))
+      (λ (q : Led t k w k × Led t k k v). inr ((1, one (to e)), q .1)) (parted p))
+      (λ (h′ : w < k). ⊎-elim (λ (q : Led t k w v). inl (suc (q .0), more l h′ (q .1)))
+      (λ (q : Led t k w k × Led t k k v). inr ((suc (q .0 .0), more l h′ (q .0 .1)), q .1)) (parted p))
       (eq-or-lt-of-le (le-of-suc-le-suc h))
     where
       to : w ≡ k → T (link t u k)
@@ -50,7 +52,8 @@ pass-link n k u v t h =
 -- a pass leads to no further board
 pub into-pass : {n : ℕ} {t : List ℕ} {into : ℕ} (k : ℕ) → k < n → Into n t into → Into n (pass n t k) into
 into-pass {n} {t} {into} k h m = record {
-  led = λ u w l b. ⊎-elim (m .led u w l) (λ (a : T (link t u k && link t k w)). m .led k w h (and-r (link t u k) (link t k w) a)) (or-cases (link t u w) (link t u k && link t k w) (tr (pass-link n k u w t l) b));
+  led = λ u w l b. ⊎-elim (m .led u w l) (λ (a : T (link t u k && link t k w)). m .led k w h (and-r (link t u k) (link t k w) a)) (or-cases (link t u w)
+      (link t u k && link t k w) (tr (pass-link n k u w t l) b));
 }
 
 -- where no row links to k it changes nothing
@@ -60,7 +63,8 @@ no-pass {n} {t} {into} k m z e =
     let l = length-tab (columnRow t t (getD t k 0) k) n in
     ext-getD 0 t (tab (columnRow t t (getD t k 0) k) n) (sym (l ∙ e))
     (λ u h. let b : u < n = omega arith in
-    sym (getD-tab (columnRow t t (getD t k 0) k) n u b ∙ ap (λ (x : Bool). bitOr (getD t u 0) (kept x (getD t k 0))) (F→≡ (link t u k) (λ q. tr z (m .led u k b q))) ∙ or-zero-r (getD t u 0)))
+    sym (getD-tab (columnRow t t (getD t k 0) k) n u b
+    ∙ ap (λ (x : Bool). bitOr (getD t u 0) (kept x (getD t k 0))) (F→≡ (link t u k) (λ q. tr z (m .led u k b q))) ∙ or-zero-r (getD t u 0)))
 
 -- after k passes a bit is a way over boards below k
 passes-way : (n : ℕ) (t : List ℕ) (k : ℕ) → k ≤ n → (u v : ℕ) → u < n → T (link (passes n t k) u v) ↔ Led t k u v
@@ -80,14 +84,16 @@ passes-way n t (suc k) h u v l =
           let s′ = ih k v h .0 (and-r (link p u k) (link p k v) a) in
           onward (wider (le-suc k) (s .1)) (le-refl (suc k)) (s′ .0, wider (le-suc k) (s′ .1))) (or-cases (link p u v) (link p u k && link p k v) (tr e m)),
       λ s. tr (sym e) (⊎-elim (λ (a : Led t k u v). or-l (link p u v) (link p u k && link p k v) (ih u v l .1 a))
-          (λ (a : Led t k u k × Led t k k v). or-r (link p u v) (link p u k && link p k v) (and-both (link p u k) (link p k v) (ih u k l .1 (a .0)) (ih k v h .1 (a .1)))) (parted (s .1))),
+          (λ (a : Led t k u k × Led t k k v). or-r (link p u v) (link p u k && link p k v) (and-both (link p u k) (link p k v) (ih u k l .1 (a .0))
+          (ih k v h .1 (a .1)))) (parted (s .1))),
     )
 
 closed-way : (n : ℕ) (t : List ℕ) → n ≤ 32 → (u v : ℕ) → u < n → v < 32 → T (link (closed n t) u v) ↔ ((u ≢ v) × Led t n u v)
 unfolding closed clearRow link
 closed-way n t n32 u v hu hv =
     let p = passes n t n in
-    let e : link (closed n t) u v ≡ bit (getD p u 0) v && not (eqb u v) = link-tab (clearRow p) n u v hu ∙ bit-without (getD p u 0) u v (lt-of-lt-of-le hu n32) hv in
+    let e : link (closed n t) u v ≡ bit (getD p u 0) v && not (eqb u v) = link-tab (clearRow p) n u v hu
+    ∙ bit-without (getD p u 0) u v (lt-of-lt-of-le hu n32) hv in
     let w = passes-way n t n (le-refl n) u v hu in (
       λ m. (ne-eqb u v (and-r (bit (getD p u 0) v) (not (eqb u v)) (tr e m)), w .0 (and-l (bit (getD p u 0) v) (not (eqb u v)) (tr e m))),
       λ q. tr (sym e) (and-both (bit (getD p u 0) v) (not (eqb u v)) (w .1 (q .1)) (eqb-ne u v (q .0))),
@@ -117,4 +123,5 @@ unfolding link
 closed-within n t n32 =
     let z = length-closed n t in
     ext-getD 0 (closed n t) (within n 31 t) (z ∙ sym (length-within n 31 t))
-    (λ u l. let h : u < n = omega arith in bits-ext 32 (getD (closed n t) u 0) (getD (within n 31 t) u 0) (closed-small n t u h) (within-small n 30 t u h) (λ v hv. closed-bit n t n32 u v h hv))
+    (λ u l. let h : u < n = omega arith in bits-ext 32 (getD (closed n t) u 0) (getD (within n 31 t) u 0) (closed-small n t u h) (within-small n 30 t u h)
+    (λ v hv. closed-bit n t n32 u v h hv))

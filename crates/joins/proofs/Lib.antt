@@ -2,5 +2,4 @@
 pub mod Rows
 pub mod Closure
 pub mod Everywhere
-pub mod Padded
 pub mod LookUps

@@ -2,20 +2,20 @@
 use mathlib.Core.Path.{_≡_, sym, ap, _∙_, subst}
 use mathlib.Core.Logic.{_≢_, _⊎_, inl, inr, ⊎-elim, _↔_}
 use mathlib.Core.Bool.{Bool, _||_, not, or-assoc}
-use mathlib.Core.List.{List, [], _∷_, _++_}
-use Prim.Native.Nat.{ℕ, suc, _+_, _-_, _/_, _%_, _^_, _≤_, _<_}
+use mathlib.Core.List.{List, [], _∷_}
+use Prim.Native.Nat.{ℕ, suc, _+_, _-_, _/_, _%_, _^_, _≤_, _<_, zero-le}
 use native.Mathlib.Nat.{lt-of-lt-of-le, mod-lt, zero-lt-suc}
 use native.Mathlib.Omega.{arith}
 use lib.Bits.{bitAnd, bitOr, or-lt}
 use lib.Dec.{T, eqb, eqb→eq, eqb-refl}
-use lib.ListN.{length, getD, drop, List·getD-append}
+use lib.ListN.{length, getD}
 use lib.Pow.{pow-mono, shr-shr, field, mod-mod-pow}
-use lib.Seq.{getD-append-add, getD-drop}
 use Rattle.model.specs.Recording.{bit, link}
 use Rattle.model.proofs.Logic.{tr, bool-ext, or-l, or-r, or-cases, and-both, and-l, and-r, eqb-ne, ne-eqb, eq-or, eq-refl, le-or-lt}
 use Rattle.model.proofs.Bits.{bit-or, bit-one, bits-ext}
 use Rattle.model.proofs.Ones.{all-in, all-out}
-use Rattle.lists.specs.Tab.{tab, kept, zeros, padded, every}
+use Rattle.lists.specs.Tab.{tab, kept, zeros, splice, every}
+use Rattle.lists.proofs.Splice.{word-inside, word-after}
 use Rattle.lists.proofs.Tab.{getD-tab, tab-ext, every-in, every-out, every-ext}
 use Rattle.links.specs.Tables.{without, gathered, composeRow, compose, pairFull, rowFull, full}
 use Rattle.links.proofs.Bits.{link-tab, gathered-bit, Joined, compose-link, bit-without, without-32, zeros-none}
@@ -24,7 +24,8 @@ use Rattle.joins.specs.LookUps.{fourOf, unionsOf, tablesFrom, looked, lo
 
 -- the table of four rows, as the code writes it: of the union it is enough that a 0 adds nothing
 module _ (or : ℕ → ℕ → ℕ) (zero-l : (x : ℕ) → or 0 x ≡ x) (zero-r : (x : ℕ) → or x 0 ≡ x) (a b c d : ℕ) where
-  pub unions-tab : 0 ∷ a ∷ b ∷ or a b ∷ c ∷ or a c ∷ or b c ∷ or (or a b) c ∷ d ∷ or a d ∷ or b d ∷ or (or a b) d ∷ or c d ∷ or (or a c) d ∷ or (or b c) d
+  pub unions-tab : 0 ∷ a ∷ b ∷ or a b ∷ c ∷ or a c ∷ or b c ∷ or (or a b) c ∷ d ∷ or a d ∷ or b d ∷ or (or a b) d ∷ or c d ∷ or
+      (or a c) d ∷ or (or b c) d
       ∷ or (or (or a b) c) d ∷ [] ≡ tab (λ i. or (or (or (kept (bit i 0) a) (kept (bit i 1) b)) (kept (bit i 2) c)) (kept (bit i 3) d)) 16
   unfolding tab bit
   unions-tab = simp (zero-l, zero-r)
@@ -43,7 +44,8 @@ or-join a b c =
 
 or-four : (x a b c d : ℕ) → bitOr x (bitOr (bitOr (bitOr a b) c) d) ≡ bitOr (bitOr (bitOr (bitOr x a) b) c) d
 or-four x a b c d =
-    sym (or-join x (bitOr (bitOr a b) c) d) ∙ ap (λ (y : ℕ). bitOr y d) (sym (or-join x (bitOr a b) c) ∙ ap (λ (y : ℕ). bitOr y c) (sym (or-join x a b)))
+    sym (or-join x (bitOr (bitOr a b) c) d) ∙ ap (λ (y : ℕ). bitOr y d) (sym (or-join x (bitOr a b) c)
+    ∙ ap (λ (y : ℕ). bitOr y c) (sym (or-join x a b)))
 
 -- the four bits from bit k on
 bit-of-four : (row k i : ℕ) → i < 4 → bit (row / 2 ^ k % 16) i ≡ bit row (k + i)
@@ -93,28 +95,23 @@ looked-all row t = more 28 (more 24 (more 20 (more 16 (more 12 (more 8 (more 4 (
 -- ---- the word that is found, by its bits
 
 -- the rows behind the last one have no link
-padded-link : (t : List ℕ) (w v : ℕ) → T (link (padded 32 t) w v) → (w < length t) × T (link t w v)
-unfolding padded link
-padded-link t w v l =
-    ⊎-elim (λ (h : length t ≤ w). absurd (zeros-none 32 w v (tr (ap (λ (x : ℕ). bit x v) (behind h)) l)))
-    (λ (h : w < length t). (h, tr (ap (λ (x : ℕ). bit x v) (List·getD-append t (drop (length t) (zeros 32)) 0 w h)) l)) (le-or-lt (length t) w)
-  where
-    behind : length t ≤ w → getD (t ++ drop (length t) (zeros 32)) w 0 ≡ getD (zeros 32) w 0
-    behind h =
-        let e : w ≡ length t + (w - length t) = omega arith in
-        rw e (getD-append-add t (drop (length t) (zeros 32)) (w - length t) 0 ∙ getD-drop (length t) (zeros 32) (w - length t) 0)
+behind-none : (n : ℕ) (t : List ℕ) (w v : ℕ) → length t ≡ n → T (link (splice 0 n t (zeros 32)) w v) → (w < n) × T (link t w v)
+unfolding link
+behind-none n t w v e l =
+    ⊎-elim (λ (h : n ≤ w). absurd (zeros-none 32 w v (tr (ap (λ (x : ℕ). bit x v) (word-after 0 n t (zeros 32) e zero-le w (omega arith))) l)))
+    (λ (h : w < n). (h, tr (ap (λ (x : ℕ). bit x v) (word-inside 0 n t (zeros 32) e zero-le w w (omega arith) h)) l)) (le-or-lt n w)
 
-link-padded : (t : List ℕ) (w v : ℕ) → w < length t → T (link t w v) → T (link (padded 32 t) w v)
-unfolding padded link
-link-padded t w v h l = tr (sym (ap (λ (x : ℕ). bit x v) (List·getD-append t (drop (length t) (zeros 32)) 0 w h))) l
+in-front : (n : ℕ) (t : List ℕ) (w v : ℕ) → length t ≡ n → w < n → T (link t w v) → T (link (splice 0 n t (zeros 32)) w v)
+unfolding link
+in-front n t w v e h l = tr (sym (ap (λ (x : ℕ). bit x v) (word-inside 0 n t (zeros 32) e zero-le w w (omega arith) h))) l
 
 -- the eight tables of the later part
-abbrev pub tablesOf : List ℕ → List (List ℕ)
-tablesOf t = tablesFrom (padded 32 t) 0 8
+abbrev pub tablesOf : ℕ → List ℕ → List (List ℕ)
+tablesOf n t = tablesFrom (splice 0 n t (zeros 32)) 0 8
 
 module _ (n : ℕ) (s t : List ℕ) (n32 : n ≤ 32) (size : n ≡ length t) (u : ℕ) (hu : u < n) where
   -- Board u itself, and the boards that it is joined to: its own bit leads on to its row in the later part.
-  word-bit : (v : ℕ) → T (bit (lookedWord (tablesOf t) (getD s u 0) u) v) ↔ ((u ≡ v) ⊎ Joined n s t u v)
+  word-bit : (v : ℕ) → T (bit (lookedWord (tablesOf n t) (getD s u 0) u) v) ↔ ((u ≡ v) ⊎ Joined n s t u v)
   unfolding lookedWord gathered link
   word-bit v = (λ m. out (g .0 (tr e m)), λ j. tr (sym e) (g .1 (into j)))
     where
@@ -124,26 +121,27 @@ module _ (n : ℕ) (s t : List ℕ) (n32 : n ≤ 32) (size : n ≡ length t) (u 
       own : (w : ℕ) → bit row w ≡ bit (getD s u 0) w || eqb u w
       own w = bit-or (getD s u 0) (2 ^ u) w ∙ ap (λ (b : Bool). bit (getD s u 0) w || b) (bit-one u w)
 
-      e : bit (lookedWord (tablesOf t) (getD s u 0) u) v ≡ bit (gathered row row (padded 32 t) 32) v
-      e = ap (λ (x : ℕ). bit x v) (looked-all row (padded 32 t))
+      e : bit (lookedWord (tablesOf n t) (getD s u 0) u) v ≡ bit (gathered row row (splice 0 n t (zeros 32)) 32) v
+      e = ap (λ (x : ℕ). bit x v) (looked-all row (splice 0 n t (zeros 32)))
 
       Over : Type 0
-      Over = (w : ℕ) × (w < 32) × T (bit row w) × T (link (padded 32 t) w v)
+      Over = (w : ℕ) × (w < 32) × T (bit row w) × T (link (splice 0 n t (zeros 32)) w v)
 
-      g : T (bit (gathered row row (padded 32 t) 32) v) ↔ (T (bit row v) ⊎ Over)
-      g = gathered-bit row row (padded 32 t) v 32
+      g : T (bit (gathered row row (splice 0 n t (zeros 32)) 32) v) ↔ (T (bit row v) ⊎ Over)
+      g = gathered-bit row row (splice 0 n t (zeros 32)) v 32
 
       out : T (bit row v) ⊎ Over → (u ≡ v) ⊎ Joined n s t u v
-      out (inl b) = ⊎-elim (λ (m : T (link s u v)). inr (inl m)) (λ (m : T (eqb u v)). inl (eqb→eq u v m)) (or-cases (link s u v) (eqb u v) (tr (own v) b))
+      out (inl b) = ⊎-elim (λ (m : T (link s u v)). inr (inl m)) (λ (m : T (eqb u v)). inl (eqb→eq u v m)) (or-cases (link s u v) (eqb u v)
+          (tr (own v) b))
       out (inr (w, h, b, l)) =
-          let k = padded-link t w v l in
+          let k = behind-none n t w v (sym size) l in
           let below : w < n = omega (arith, k .0) in
           ⊎-elim (λ (m : T (link s u w)). inr (inr (inr (w, below, m, k .1))))
           (λ (m : T (eqb u w)). inr (inr (inl (subst (λ (x : ℕ). T (link t x v)) (sym (eqb→eq u w m)) (k .1)))))
           (or-cases (link s u w) (eqb u w) (tr (own w) b))
 
       over : (w : ℕ) → w < n → T (bit row w) → T (link t w v) → T (bit row v) ⊎ Over
-      over w h b l = inr (w, omega arith, b, link-padded t w v (omega arith) l)
+      over w h b l = inr (w, omega arith, b, in-front n t w v (sym size) h l)
 
       into : (u ≡ v) ⊎ Joined n s t u v → T (bit row v) ⊎ Over
       into (inl q) = inl (tr (sym (own v)) (or-r (link s u v) (eqb u v) (eq-refl q)))
@@ -152,13 +150,13 @@ module _ (n : ℕ) (s t : List ℕ) (n32 : n ≤ 32) (size : n ≡ length t) (u 
       into (inr (inr (inr (w, h, b, l)))) = over w h (tr (sym (own w)) (or-l (link s u w) (eqb u w) b)) l
 
   word : ℕ
-  word = lookedWord (tablesOf t) (getD s u 0) u
+  word = lookedWord (tablesOf n t) (getD s u 0) u
 
   joined : (v : ℕ) → u ≢ v → T (bit word v) → Joined n s t u v
   unfolding word
   joined v ne b = ⊎-elim (λ (q : u ≡ v). absurd (ne q)) (λ (j : Joined n s t u v). j) (word-bit v .0 b)
 
-  row-compose : lookedRow (tablesOf t) s u ≡ composeRow n s t u
+  row-compose : lookedRow (tablesOf n t) s u ≡ composeRow n s t u
   unfolding lookedRow composeRow link compose word
   row-compose =
       let h32 : u < 32 = omega arith in
@@ -171,7 +169,7 @@ module _ (n : ℕ) (s t : List ℕ) (n32 : n ≤ 32) (size : n ≡ length t) (u 
       (λ m. let j = compose-link n s t u v n32 hu hv .0 (tr (sym (link-tab (composeRow n s t) n u v hu)) m) in
       tr (sym e) (and-both (bit word v) (not (eqb u v)) (word-bit v .1 (inr (j .1))) (eqb-ne u v (j .0)))))
 
-  row-full : lookedFull n (tablesOf t) s u ≡ rowFull n (compose n s t) u
+  row-full : lookedFull n (tablesOf n t) s u ≡ rowFull n (compose n s t) u
   unfolding lookedFull rowFull pairFull word
   row-full =
       let c = compose n s t in
@@ -186,11 +184,11 @@ module _ (n : ℕ) (s t : List ℕ) (n32 : n ≤ 32) (size : n ≡ length t) (u 
       (or-cases (eqb u v) (link c u v) (every-out (pairFull c u) n m v h))))))
 
 -- THEOREM. The rows that the look-ups find are those of the composition.
-pub looked-compose : (n : ℕ) (s t : List ℕ) → n ≤ 32 → n ≡ length t → tab (lookedRow (tablesOf t) s) n ≡ compose n s t
+pub looked-compose : (n : ℕ) (s t : List ℕ) → n ≤ 32 → n ≡ length t → tab (lookedRow (tablesOf n t) s) n ≡ compose n s t
 unfolding compose
-looked-compose n s t n32 size = tab-ext (lookedRow (tablesOf t) s) (composeRow n s t) n (λ u h. row-compose n s t n32 size u h)
+looked-compose n s t n32 size = tab-ext (lookedRow (tablesOf n t) s) (composeRow n s t) n (λ u h. row-compose n s t n32 size u h)
 
 -- THEOREM. So is the test of all rows.
-pub looked-full : (n : ℕ) (s t : List ℕ) → n ≤ 32 → n ≡ length t → every (lookedFull n (tablesOf t) s) n ≡ full n (compose n s t)
+pub looked-full : (n : ℕ) (s t : List ℕ) → n ≤ 32 → n ≡ length t → every (lookedFull n (tablesOf n t) s) n ≡ full n (compose n s t)
 unfolding full
-looked-full n s t n32 size = every-ext (lookedFull n (tablesOf t) s) (rowFull n (compose n s t)) n (λ u h. row-full n s t n32 size u h)
+looked-full n s t n32 size = every-ext (lookedFull n (tablesOf n t) s) (rowFull n (compose n s t)) n (λ u h. row-full n s t n32 size u h)

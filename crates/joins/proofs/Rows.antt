@@ -51,7 +51,8 @@ through-four s t n k =
     tab-ext (fourRow (tab (throughRow s t k) n) s t k) (throughRow s t (k + 4)) n (λ u h. rw (getD-tab (throughRow s t k) n u h, e, e3, e2, e1))
 
 -- where they have no links they add nothing
-pub no-four : (out s t : List ℕ) (w n : ℕ) → bitOr (bitOr (bitOr (getD t w 0) (getD t (w + 1) 0)) (getD t (w + 2) 0)) (getD t (w + 3) 0) ≡ 0 → n ≡ length out
+pub no-four : (out s t : List ℕ) (w n : ℕ) → bitOr (bitOr (bitOr (getD t w 0) (getD t (w + 1) 0)) (getD t (w + 2) 0)) (getD t (w + 3) 0) ≡ 0
+    → n ≡ length out
     → out ≡ tab (fourRow out s t w) n
 unfolding fourRow
 no-four out s t w n z e =

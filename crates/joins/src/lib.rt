@@ -4,7 +4,7 @@ ghost use mathlib.Core.Path.{_≡_};
 ghost use mathlib.Core.List.{[]};
 ghost use Prim.Native.Nat.{_+_, _/_, _%_, _^_, _≤_, _<_};
 ghost use lib.ListN.{length, getD};
-ghost use Rattle.lists.specs.Tab.{tab, padded, every};
+ghost use Rattle.lists.specs.Tab.{tab, zeros, splice, every};
 ghost use Rattle.links.specs.Tables.{union, throughRow, compose, within, full};
 ghost use Rattle.joins.specs.Columns.{columnRow, fourRow};
 ghost use Rattle.joins.specs.LookUps.{unionsOf, tablesFrom, lookedWord, lookedRow, lookedFull};
@@ -320,7 +320,7 @@ pub fn close_over(out: &mut [u32], words: &[u32], n: usize)
 // The pairs joined within the pick of the words, by value, and zeros up to 32.
 pub fn closed_words(words: &[u32], n: usize) -> [u32; 32]
     requires { ⌜ (n ≤ 32) × (n ≡ length (now words)) ⌝ }
-    ensures { λ r. ⌜ r ≡ padded 32 (within n 31 (now (words .entry))) ⌝ }
+    ensures { λ r. ⌜ r ≡ splice 0 n (within n 31 (now (words .entry))) (zeros 32) ⌝ }
 {
     let mut t = lists::load(words, n);
     close(&mut t[0..n], n);

@@ -1,32 +1,18 @@
--- CONDITION 3 of the mission over the definitions: one claim, both ways, with h, the most links in one pick, left open. Two recordings have
--- equal tables of reach exactly when no part before and no part after tells them apart by a reach length. Assumes nothing.
-use mathlib.Core.Path.{_≡_, sym, ap, subst}
-use mathlib.Core.Logic.{_≢_, ⊎-elim, _↔_}
-use mathlib.Core.List.{List, [], _∷_, _++_}
+-- CONDITION 3 of the mission over the definitions: two recordings have equal tables of reach exactly when no part before and no part after tells them
+-- apart by a reach length.
+use mathlib.Core.Path.{_≡_}
+use mathlib.Core.Logic.{_↔_}
+use mathlib.Core.List.{List, _++_}
 use Prim.Native.Nat.{ℕ, _≤_, _<_}
-use native.Mathlib.Nat.{le-refl}
-use native.Mathlib.Omega.{arith}
-use lib.Dec.{T}
-use lib.ListN.{length, getD, length-append}
-use Rattle.model.specs.Recording.{bit, link, Recording}
-use Rattle.model.specs.Journey.{Limit, atMost, Journey}
-use Rattle.model.specs.Measures.{EveryPair, PassesReach}
+use lib.ListN.{length, getD}
+use Rattle.model.specs.Recording.{Recording}
+use Rattle.model.specs.Journey.{Limit, atMost, unlimited}
+use Rattle.model.specs.Measures.{PassesReach}
 use Rattle.model.specs.Length.{NoLength, HasSmallest}
-use Rattle.model.proofs.Logic.{bool-ext, cases, eq-or, dec-of}
-use Rattle.model.proofs.Links.{links-ext}
-use Rattle.model.proofs.Windows.{window-all, rec-append}
-use Rattle.model.proofs.Trips.{Trip, trip-join, trip-split, trip-to, trip-stay, journey-all}
-use Rattle.model.proofs.Lengths.{Decided, smallest-whole, none-whole}
-use Rattle.model.proofs.Monotone.{reach-up}
-use Rattle.links.specs.Tables.{compose, within, full}
 use Rattle.links.specs.Composed.{reach}
 use Rattle.links.specs.Tells.{Marks}
-use Rattle.links.proofs.Tells.{Reaches, full-test}
-use Rattle.law.specs.Faithful.{windowTable, window-tells}
-use Rattle.law.specs.Kits.{reach-faithful}
-use Rattle.law.specs.Stars.{into, outOf, into-clean, out-clean, into-trip, out-trip, into-stays, out-stays}
-
--- ---- the claim
+use Rattle.links.proofs.Tells.{Reaches}
+use Rattle.measures.specs.Kit.{hops01}
 
 -- a reach length exists, and none does
 abbrev pub HasReach : ℕ → Limit → List (List ℕ) → Type 0
@@ -54,141 +40,21 @@ NeverApart n L x y = (before after : List (List ℕ)) → Around n x y before af
     → ((HasReach n L (before ++ x ++ after) × NoReach n L (before ++ y ++ after)) → ⊥)
     × ((HasReach n L (before ++ y ++ after) × NoReach n L (before ++ x ++ after)) → ⊥)
 
--- ---- the table of reach
-
--- THEOREM. The table of reach marks exactly the pairs of different boards joined by a journey in the whole recording.
-pub reach-marks : (n h : ℕ) → n ≤ 32 → (r : List (List ℕ)) → Recording n r → 1 ≤ length r → Marks n (Reaches r (atMost h) 1 (length r)) (reach n h r)
-unfolding reach windowTable
-reach-marks n h n32 r k l =
-    rw window-all at (window-tells (compose n) (λ i. within n h) r (λ i j. Marks n (Reaches r (atMost h) i j)) (reach-faithful h 0 n n32 r k) 1 (length r) (le-refl 1) l (le-refl (length r)))
-
-table-trip : (n h : ℕ) → n ≤ 32 → (r : List (List ℕ)) → Recording n r → 1 ≤ length r → (u v : ℕ) → u < n → v < n → T (link (reach n h r) u v) ↔ ((u ≢ v) × Trip (atMost h) r u v)
-table-trip n h n32 r k l u v hu hv =
-    let e = reach-marks n h n32 r k l .marks u v hu hv in
-    let f = journey-all r (atMost h) u v in
-    (λ m. let q = e .0 m in (q .0, f .0 (q .1)), λ q. e .1 (q .0, f .1 (q .1)))
-
--- ---- a reach length exists exactly when trips over the whole recording join every pair
-
-passes-decided : (n h : ℕ) → n ≤ 32 → (r : List (List ℕ)) → Recording n r → Decided (PassesReach r n (atMost h)) (length r)
-passes-decided n h n32 r k i j a b c =
-    let t = windowTable (compose n) (λ i. within n h) r i j in
-    let m = window-tells (compose n) (λ i. within n h) r (λ i j. Marks n (Reaches r (atMost h) i j)) (reach-faithful h 0 n n32 r k) i j a b c in
-    let f = full-test n (Journey r (atMost h) i j) t (m .marks) in
-    dec-of (full n t) (f .0) (f .1)
-
-module _ (n h : ℕ) (n32 : n ≤ 32) (r : List (List ℕ)) (k : Recording n r) (l : 1 ≤ length r) where
-  has-reach : HasReach n (atMost h) r ↔ EveryPair n (Trip (atMost h) r)
-  has-reach =
-      let e = smallest-whole (PassesReach r n (atMost h)) (length r) (passes-decided n h n32 r k) (reach-up r n (atMost h) (length r)) l in (
-        λ x u v hu hv ne. journey-all r (atMost h) u v .0 (e .0 x u v hu hv ne),
-        λ f. e .1 (λ u v hu hv ne. journey-all r (atMost h) u v .1 (f u v hu hv ne)),
-      )
-
-  no-reach : NoReach n (atMost h) r ↔ (EveryPair n (Trip (atMost h) r) → ⊥)
-  no-reach =
-      let e = none-whole (PassesReach r n (atMost h)) (length r) (reach-up r n (atMost h) (length r)) l in (
-        λ x f. e .0 x (λ u v hu hv ne. journey-all r (atMost h) u v .1 (f u v hu hv ne)),
-        λ x. e .1 (λ p. x (λ u v hu hv ne. journey-all r (atMost h) u v .0 (p u v hu hv ne))),
-      )
-
--- ---- joined recordings
-
-pub joined-recorded : (n : ℕ) (p x s : List (List ℕ)) → Recording n p → Recording n x → Recording n s → Recording n (p ++ x ++ s)
-joined-recorded n p x s a b c = rec-append n (p ++ x) s (rec-append n p x a b) c
-
-joined-some : (p x s : List (List ℕ)) → 1 ≤ length p → 1 ≤ length (p ++ x ++ s)
-joined-some p x s h = omega (arith, length-append (p ++ x) s, length-append p x)
-
-joined-split : (L : Limit) (p x s : List (List ℕ)) (u v : ℕ) → Trip L (p ++ x ++ s) u v → (a b : ℕ) × Trip L p u a × Trip L x a b × Trip L s b v
-joined-split L p x s u v t =
-    let f = trip-split L (p ++ x) s u v t in
-    let g = trip-split L p x u (f .0) (f .1) in
-    (g .0, f .0, g .1, g .2, f .2)
-
-joined-join : (L : Limit) (p x s : List (List ℕ)) (u a b v : ℕ) → Trip L p u a → Trip L x a b → Trip L s b v → Trip L (p ++ x ++ s) u v
-joined-join L p x s u a b v f g k = trip-join L (p ++ x) s u b v (trip-join L p x u a b f g) k
-
--- ---- equal tables: the parts around cannot tell them apart
-
-carry : (n h : ℕ) → n ≤ 32 → (x y : List (List ℕ)) → Recording n x → Recording n y → 1 ≤ length x → 1 ≤ length y → SameTables n h x y → (u v : ℕ) → u < n → Trip (atMost h) x u v → Trip (atMost h) y u v
-unfolding link
-carry n h n32 x y kx ky lx ly same u v hu t =
-    ⊎-elim (λ (e : u ≡ v). subst (λ (z : ℕ). Trip (atMost h) y u z) e (trip-stay (atMost h) y u))
-    (λ (ne : u ≢ v). let hv = trip-to n (atMost h) x kx u v hu t in
-    table-trip n h n32 y ky ly u v hu hv .0 (subst (λ (w : ℕ). T (bit w v)) (same u hu) (table-trip n h n32 x kx lx u v hu hv .1 (ne, t))) .1) (eq-or u v)
-
-not-apart : (n h : ℕ) → n ≤ 32 → (x y p s : List (List ℕ)) → Recording n x → Recording n y → Recording n p → Recording n s → 1 ≤ length x → 1 ≤ length y → 1 ≤ length p
-    → SameTables n h x y → HasReach n (atMost h) (p ++ x ++ s) → NoReach n (atMost h) (p ++ y ++ s) → ⊥
-not-apart n h n32 x y p s kx ky kp ks lx ly lp same a b =
-    no-reach n h n32 (p ++ y ++ s) (joined-recorded n p y s kp ky ks) (joined-some p y s lp) .0 b (λ u v hu hv ne.
-    let t = joined-split (atMost h) p x s u v (has-reach n h n32 (p ++ x ++ s) (joined-recorded n p x s kp kx ks) (joined-some p x s lp) .0 a u v hu hv ne) in
-    joined-join (atMost h) p y s u (t .0) (t .1) v (t .2) (carry n h n32 x y kx ky lx ly same (t .0) (t .1) (trip-to n (atMost h) p kp u (t .0) hu (t .2)) (t .3)) (t .4))
-
--- ---- different tables: two single picks tell them apart
-
-module _ (n h : ℕ) (n32 : n ≤ 32) (pos : 1 ≤ h) (a b : ℕ) (ha : a < n) (hb : b < n) where
-  abbrev P : List (List ℕ)
-  P = into n a ∷ []
-
-  abbrev S : List (List ℕ)
-  S = outOf n b ∷ []
-
-  kP : Recording n P
-  kP = (into-clean n a ha, tt)
-
-  kS : Recording n S
-  kS = (out-clean n b hb, tt)
-
-  -- with a journey from a to b in the middle, every pair has one
-  marked : (x : List (List ℕ)) → Recording n x → 1 ≤ length x → T (link (reach n h x) a b) → HasReach n (atMost h) (P ++ x ++ S)
-  marked x k l m =
-      has-reach n h n32 (P ++ x ++ S) (joined-recorded n P x S kP k kS) (joined-some P x S (le-refl 1)) .1 (λ u v hu hv ne.
-      joined-join (atMost h) P x S u a b v (into-trip n h a u pos hu) (table-trip n h n32 x k l a b ha hb .0 m .1) (out-trip n h b v pos hb hv))
-
-  -- without one, a and b have none
-  unmarked : (y : List (List ℕ)) → Recording n y → 1 ≤ length y → a ≢ b → (T (link (reach n h y) a b) → ⊥) → NoReach n (atMost h) (P ++ y ++ S)
-  unmarked y k l ne no-link =
-      no-reach n h n32 (P ++ y ++ S) (joined-recorded n P y S kP k kS) (joined-some P y S (le-refl 1)) .1 (λ f.
-      let t = joined-split (atMost h) P y S a b (f a b ha hb ne) in
-      let i = into-stays n h a (t .0) ha (t .2) in
-      let j = out-stays n h b (t .1) hb (t .4) in
-      no-link (table-trip n h n32 y k l a b ha hb .1 (ne, subst (λ (z : ℕ). Trip (atMost h) y z b) (sym i) (subst (λ (z : ℕ). Trip (atMost h) y (t .0) z) j (t .3)))))
-
-  -- so where no parts tell x from y, a pair marked in x is marked in y
-  carried : (x y : List (List ℕ)) → Recording n x → Recording n y → 1 ≤ length x → 1 ≤ length y
-      → ((HasReach n (atMost h) (P ++ x ++ S) × NoReach n (atMost h) (P ++ y ++ S)) → ⊥) → T (link (reach n h x) a b) → T (link (reach n h y) a b)
-  carried x y kx ky lx ly f m =
-      ⊎-elim (λ (t : T (link (reach n h y) a b)). t)
-      (λ (g : T (link (reach n h y) a b) → ⊥). absurd (f (marked x kx lx m, unmarked y ky ly (table-trip n h n32 x kx lx a b ha hb .0 m .0) g)))
-      (cases (link (reach n h y) a b))
-
--- ---- THE CLAIM
-
-pub condition-3 : (n h : ℕ) → 2 ≤ n → n ≤ 32 → 1 ≤ h → (x y : List (List ℕ)) → Recording n x → Recording n y
+-- with at most h links in one pick the tables are equal exactly when, journeys having the limit L, no parts tell the two apart
+abbrev pub Exactly : ℕ → Limit → Type 0
+Exactly h L = (n : ℕ) → 2 ≤ n → n ≤ 32 → (x y : List (List ℕ)) → Recording n x → Recording n y
     → 1 ≤ length x → length x ≤ 4094 → 1 ≤ length y → length y ≤ 4094
-    → SameTables n h x y ↔ NeverApart n (atMost h) x y
-condition-3 n h n2 n32 pos x y kx ky x1 x2 y1 y2 = (
-  λ same p s c. (
-    λ q. not-apart n h n32 x y p s kx ky (c .before-recorded) (c .after-recorded) x1 y1 (c .some-before) same (q .0) (q .1),
-    λ q. not-apart n h n32 y x p s ky kx (c .before-recorded) (c .after-recorded) y1 x1 (c .some-before) (λ u l. sym (same u l)) (q .0) (q .1),
-  ),
-  λ f. let e = equal f in λ u l. ap (λ (t : List ℕ). getD t u 0) e,
-)
-  where
-    around : (a b : ℕ) → a < n → b < n → Around n x y (into n a ∷ []) (outOf n b ∷ [])
-    around a b ha hb = record {
-      before-recorded = (into-clean n a ha, tt);
-      after-recorded = (out-clean n b hb, tt);
-      some-before = le-refl 1;
-      some-after = le-refl 1;
-      fits-first = omega (arith, length-append (into n a ∷ x) (outOf n b ∷ []));
-      fits-second = omega (arith, length-append (into n a ∷ y) (outOf n b ∷ []));
-    }
+    → SameTables n h x y ↔ NeverApart n L x y
 
-    equal : NeverApart n (atMost h) x y → reach n h x ≡ reach n h y
-    equal f =
-        links-ext n (reach n h x) (reach n h y) (reach-marks n h n32 x kx x1 .clean .words) (reach-marks n h n32 y ky y1 .clean .words) (λ a b ha hb.
-        let c = f (into n a ∷ []) (outOf n b ∷ []) (around a b ha hb) in
-        bool-ext (link (reach n h x) a b) (link (reach n h y) a b)
-        (carried n h n32 pos a b ha hb x y kx ky x1 y1 (c .0)) (carried n h n32 pos a b ha hb y x ky kx y1 x1 (c .1)))
+-- CONDITION 3 of the mission over the definitions, one claim, both ways, whatever number of links is the most in one pick.
+abbrev pub Condition3Claim : Type 0
+Condition3Claim = (h : ℕ) → 1 ≤ h → Exactly h (atMost h)
+
+-- CONDITION 3 of the mission, as document 01 has journeys: no limit.
+abbrev pub UnlimitedClaim : Type 0
+UnlimitedClaim = Exactly hops01 unlimited
+
+-- The table of reach marks exactly the pairs of different boards joined by a journey in the whole recording.
+abbrev pub ReachClaim : Type 0
+ReachClaim = (n : ℕ) → n ≤ 32 → (r : List (List ℕ)) → Recording n r → 1 ≤ length r
+    → Marks n (Reaches r unlimited 1 (length r)) (reach n hops01 r)

@@ -2,18 +2,23 @@
 use Prim.Native.Nat.{ℕ, zero, suc, _+_, _-_, _*_, _≤_}
 use mathlib.Core.Path.{_≡_}
 use mathlib.Core.List.{List}
-use Rattle.model.specs.Journey.{unlimited}
+use Rattle.model.specs.Journey.{Limit, unlimited}
 use Rattle.model.specs.Measures.{PassesCommon, PassesFootprint, PassesReach, PassesRoundTrip}
 use Rattle.model.specs.Length.{Smallest, Largest, NoLength}
 use Rattle.calls.specs.Answers.{Outcome}
 
--- when the window i to j of r passes, by the measure's number: 1 common, 2 return, 3 reach, 4 round trip
+-- when the window i to j of r passes, by the measure's number: 1 common, 2 return, 3 reach, 4 round trip; journeys cross at most L links in a pick, and
+-- a round trip takes `turn` picks to turn round
+abbrev pub PassesWith : Limit → ℕ → ℕ → ℕ → List ℕ → List (List ℕ) → ℕ → ℕ → Type 0
+PassesWith L turn zero n footprint r i j = ⊥
+PassesWith L turn (suc zero) n footprint r i j = PassesCommon r n i j
+PassesWith L turn (suc (suc zero)) n footprint r i j = PassesFootprint r footprint i j
+PassesWith L turn (suc (suc (suc zero))) n footprint r i j = PassesReach r n L i j
+PassesWith L turn (suc (suc (suc (suc x)))) n footprint r i j = PassesRoundTrip r n L turn i j
+
+-- document 01's: no limit, and a round trip may turn round within a pick
 abbrev pub Passes : ℕ → ℕ → List ℕ → List (List ℕ) → ℕ → ℕ → Type 0
-Passes zero n footprint r i j = ⊥
-Passes (suc zero) n footprint r i j = PassesCommon r n i j
-Passes (suc (suc zero)) n footprint r i j = PassesFootprint r footprint i j
-Passes (suc (suc (suc zero))) n footprint r i j = PassesReach r n unlimited i j
-Passes (suc (suc (suc (suc x)))) n footprint r i j = PassesRoundTrip r n unlimited 0 i j
+Passes = PassesWith unlimited 0
 
 -- k is the length: the largest for measure 1, the smallest for the others
 abbrev pub IsLength : ℕ → (ℕ → ℕ → Type 0) → ℕ → ℕ → Type 0

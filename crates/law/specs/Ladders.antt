@@ -1,345 +1,90 @@
--- The ladders, on the words of the area: whatever the walk tests is the window from s to m. The kit is a parameter; all that is asked of it is `Law`.
--- Assumes nothing.
-use mathlib.Core.Path.{_≡_, sym, ap, ap₂, _∙_}
-use mathlib.Core.Logic.{_≢_, inl, inr, ⊎-elim}
+-- THE LADDERS, on the words of the area: what the parts hold, over any kit; all that is asked of its tables is `Law`.
+use mathlib.Core.Path.{_≡_}
+use mathlib.Core.Logic.{_↔_}
 use mathlib.Core.List.{List}
-use Prim.Native.Nat.{ℕ, zero, suc, _+_, _-_, _*_, _≤_, _<_}
-use native.Mathlib.Nat.{le-refl}
-use native.Mathlib.Omega.{arith}
-use mathlib.Core.Bool.{Bool, true, false}
+use Prim.Native.Nat.{ℕ, _+_, _-_, _*_, _≤_, _<_}
+use mathlib.Core.Bool.{_&&_, not, cond}
 use lib.ListN.{length}
-use lib.Dec.{T, leb, ltb, leb→le, le→leb, ltb→lt, lt→ltb}
-use Rattle.model.proofs.Logic.{eq-or}
+use lib.Dec.{T, eqb}
 use Rattle.lists.specs.Tab.{zeros}
 use Rattle.measures.specs.Kit.{Kit}
-use Rattle.area.specs.Parts.{part, composeAt}
-use Rattle.place.specs.Places.{pickTaken, startMoved, turned, charged, tested}
-use Rattle.steps.specs.Walk.{State, state, ladder, written, rebuilt, joinedArea, joined, extendedBy, extended, entered, windowArea, windowed, judged, tried, cleared, raisedBy, raised}
-use Rattle.steps.proofs.Frames.{frame-room, ladder-length, ladder-out, written-frame, rebuilt-frame, joined-frame, tried-frame, cleared-frame}
-use Rattle.area.proofs.Laws.{Wide, own-same, compose-same, compose-other, copy-same, zero-same, zero-other}
+use Rattle.area.specs.Parts.{part}
+use Rattle.steps.specs.Walk.{State}
+use Rattle.area.proofs.Laws.{Wide}
+use Rattle.place.specs.declared.Place.{Place}
 
-pub not-lt : (m n : ℕ) → (T (ltb m n) → ⊥) → n ≤ m
-not-lt m n f = let g : m < n → ⊥ = λ h. f (lt→ltb m n h) in omega arith
+-- m, s and b of a state, and its limit
+abbrev pub mOf : State → ℕ
+mOf st = st .place .window .taken .0
 
-pub not-le : (m n : ℕ) → (T (leb m n) → ⊥) → n < m
-not-le m n f = let g : m ≤ n → ⊥ = λ h. f (le→leb m n h) in omega arith
+abbrev pub sOf : State → ℕ
+sOf st = st .place .window .start .0
+
+abbrev pub bOf : State → ℕ
+bOf st = st .place .window .boundary .0
+
+abbrev pub limitOf : State → ℕ
+limitOf st = st .place .settings .limit
+
+-- what a walk composes, over so many picks at most: a kit, pick i's own table, the table of the window i to j, and the list that is tested against
+pub record WindowTables : Type 0 where
+  pub kit : Kit
+  pub own : ℕ → List ℕ
+  pub win : ℕ → ℕ → List ℕ
+  pub list : List ℕ
+  pub most : ℕ
 
 -- what part i holds
-abbrev pub holds : Kit → State → ℕ → List ℕ
-holds K st i = part (K .width) (st .area) i
+abbrev pub holds : WindowTables → State → ℕ → List ℕ
+holds X st i = part (X .kit .width) (st .area) i
 
--- what is asked of a kit, over M picks: pick i's own table, the window's table, and the split law
-pub record Law (K : Kit) (own : ℕ → List ℕ) (win : ℕ → ℕ → List ℕ) (M : ℕ) : Type 0 where
-  pub wide : Wide K
-  pub own-wide : (i : ℕ) → 1 ≤ i → i ≤ M → length (own i) ≡ K .width
-  pub single : (i : ℕ) → 1 ≤ i → i ≤ M → own i ≡ win i i
-  pub split : (i k j : ℕ) → 1 ≤ i → i ≤ k → k < j → j ≤ M → K .join (win i k) (win (k + 1) j) ≡ win i j
+-- what is asked of them: tables of E words, and the split law
+pub record Law (X : WindowTables) : Type 0 where
+  pub wide : Wide (X .kit)
+  pub own-wide : (i : ℕ) → 1 ≤ i → i ≤ X .most → length (X .own i) ≡ X .kit .width
+  pub single : (i : ℕ) → 1 ≤ i → i ≤ X .most → X .own i ≡ X .win i i
+  pub split : (i k j : ℕ) → 1 ≤ i → i ≤ k → k < j → j ≤ X .most → X .kit .join (X .win i k) (X .win (k + 1) j) ≡ X .win i j
+
+-- P says when a window passes: it is what the test of its table tells
+abbrev pub Decides : WindowTables → (ℕ → ℕ → Type 0) → Type 0
+Decides X P = (i j : ℕ) → 1 ≤ i → i ≤ j → j ≤ X .most → T (X .kit .pass (X .list) (X .win i j)) ↔ P i j
 
 -- the frame: room for the parts, and the list in its part
-pub record Framed (K : Kit) (l : List ℕ) (st : State) : Type 0 where
-  pub start : 1 ≤ st .place .start .0
-  pub top : st .place .taken .0 ≤ st .place .limit
-  pub room : (st .place .limit + 4) * K .width ≤ length (st .area)
-  pub list : holds K st (st .place .limit + 3) ≡ l
+pub record Framed (X : WindowTables) (st : State) : Type 0 where
+  pub start : 1 ≤ sOf st
+  pub top : mOf st ≤ limitOf st
+  pub room : (limitOf st + 4) * X .kit .width ≤ length (st .area)
+  pub list : holds X st (limitOf st + 3) ≡ X .list
 
 -- what the parts hold between steps, part by part
-pub record Laddered (K : Kit) (own : ℕ → List ℕ) (win : ℕ → ℕ → List ℕ) (l : List ℕ) (st : State) : Type 0 where
-  pub frame : Framed K l st
-  pub bound : st .place .boundary .0 ≤ st .place .taken .0
-  pub near : st .place .start .0 ≤ st .place .boundary .0 + 1
-  pub lefts : (i : ℕ) → st .place .start .0 ≤ i → i ≤ st .place .boundary .0 → holds K st i ≡ win i (st .place .boundary .0)
-  pub owns : (i : ℕ) → st .place .boundary .0 < i → i ≤ st .place .taken .0 → holds K st i ≡ own i
-  pub rights : st .place .boundary .0 < st .place .taken .0 → holds K st (st .place .limit + 1) ≡ win (st .place .boundary .0 + 1) (st .place .taken .0)
-  pub empty : st .place .boundary .0 ≡ st .place .taken .0 → holds K st (st .place .limit + 1) ≡ zeros (K .width)
+pub record Laddered (X : WindowTables) (st : State) : Type 0 where
+  pub frame : Framed X st
+  pub bound : bOf st ≤ mOf st
+  pub near : sOf st ≤ bOf st + 1
+  pub lefts : (i : ℕ) → sOf st ≤ i → i ≤ bOf st → holds X st i ≡ X .win i (bOf st)
+  pub owns : (i : ℕ) → bOf st < i → i ≤ mOf st → holds X st i ≡ X .own i
+  pub rights : bOf st < mOf st → holds X st (limitOf st + 1) ≡ X .win (bOf st + 1) (mOf st)
+  pub empty : bOf st ≡ mOf st → holds X st (limitOf st + 1) ≡ zeros (X .kit .width)
 
 -- and when a pick is written, and has not yet joined
-pub record Ready (K : Kit) (own : ℕ → List ℕ) (win : ℕ → ℕ → List ℕ) (l : List ℕ) (st : State) : Type 0 where
-  pub frame : Framed K l st
-  pub bound : st .place .boundary .0 < st .place .taken .0
-  pub lefts : (i : ℕ) → st .place .start .0 ≤ i → i ≤ st .place .boundary .0 → holds K st i ≡ win i (st .place .boundary .0)
-  pub owns : (i : ℕ) → st .place .boundary .0 < i → i ≤ st .place .taken .0 → holds K st i ≡ own i
-  pub rights : st .place .boundary .0 + 1 < st .place .taken .0 → holds K st (st .place .limit + 1) ≡ win (st .place .boundary .0 + 1) (st .place .taken .0 - 1)
+pub record Unjoined (X : WindowTables) (st : State) : Type 0 where
+  pub frame : Framed X st
+  pub bound : bOf st < mOf st
+  pub lefts : (i : ℕ) → sOf st ≤ i → i ≤ bOf st → holds X st i ≡ X .win i (bOf st)
+  pub owns : (i : ℕ) → bOf st < i → i ≤ mOf st → holds X st i ≡ X .own i
+  pub rights : bOf st + 1 < mOf st → holds X st (limitOf st + 1) ≡ X .win (bOf st + 1) (mOf st - 1)
 
-module _ (K : Kit) (own : ℕ → List ℕ) (win : ℕ → ℕ → List ℕ) (l : List ℕ) (M : ℕ) (law : Law K own win M) where
-  -- ---- the left ladder
+-- What the parts hold once pick m is taken in, part by part: compositions i to b for i from s to b, own tables above b, the right ladder, the last
+-- window tested, the footprint, and zero.
+pub record Holds (X : WindowTables) (m : ℕ) (st : State) : Type 0 where
+  pub lefts : (i : ℕ) → sOf st ≤ i → i ≤ bOf st → holds X st i ≡ X .win i (bOf st)
+  pub owns : (i : ℕ) → bOf st < i → i ≤ m → holds X st i ≡ X .own i
+  pub rights : bOf st < m → holds X st (limitOf st + 1) ≡ X .win (bOf st + 1) m
+  pub empty : bOf st ≡ m → holds X st (limitOf st + 1) ≡ zeros (X .kit .width)
+  pub window : holds X st (limitOf st + 2) ≡ X .win (sOf st) m
+  pub list : holds X st (limitOf st + 3) ≡ X .list
+  pub spare : holds X st (limitOf st + 4) ≡ zeros (X .kit .width)
 
-  module _ (N : ℕ) (a : List ℕ) (room : N * K .width ≤ length a) (j : ℕ) (high : j ≤ N) where
-    pub ladder-at : (k : ℕ) → k < j → j ≤ M → ((i : ℕ) → j - k ≤ i → i ≤ j → part (K .width) a i ≡ own i)
-        → (i : ℕ) → j - k ≤ i → i ≤ j → part (K .width) (ladder K a j k) i ≡ win i j
-    unfolding ladder
-    ladder-at zero h z f i x y = let e : i ≡ j = omega arith in f i x y ∙ law .single i (omega arith) (omega arith) ∙ ap (λ (x : ℕ). win i x) e
-    ladder-at (suc k) h z f i x y =
-        let q = ladder K a j k in
-        let g = j - suc k in
-        let e = ladder-length K (law .wide) N a room j high k (omega arith) in
-        let ih = ladder-at k (omega arith) z (λ x c d. f x (omega arith) d) in
-        ⊎-elim
-        (λ (w : i ≡ j - suc k).
-        ap (λ (v : ℕ). part (K .width) (composeAt K q g g (g + 1)) v) w
-        ∙ compose-same K N q (omega arith) g (omega arith) (omega arith) (law .wide) g (g + 1)
-        ∙ ap₂ (K .join) (ladder-out K (law .wide) N a room j high k (omega arith) g (omega arith) (inl (omega arith)) ∙ f g (omega arith) (omega arith) ∙ law .single g (omega arith) (omega arith)) (ih (g + 1) (omega arith) (omega arith))
-        ∙ law .split g g j (omega arith) (le-refl g) (omega arith) z ∙ ap (λ (v : ℕ). win v j) (sym w))
-        (λ (ne : i ≢ j - suc k). compose-other K N q (omega arith) g (omega arith) (omega arith) (law .wide) g (g + 1) i (omega arith) ne ∙ ih i (omega arith) y) (eq-or i (j - suc k))
-
-  -- ---- a new pick
-
-  pub written-ready : (k : ℕ) (w : List ℕ) (st : State) → Laddered K own win l st → st .place .taken .0 + 1 ≤ M → st .place .taken .0 + 1 ≤ st .place .limit
-      → K .own (st .place .taken .0 + 1) w ≡ own (st .place .taken .0 + 1) → Ready K own win l (written K k w st)
-  unfolding written startMoved pickTaken
-  written-ready k w st c z t e =
-      let f = c .frame in
-      let st1 = f .start in
-      let rm = f .room in
-      let bd = c .bound in
-      let m = st .place .taken .0 in
-      let lo : length (K .own (m + 1) w) ≡ K .width = ap length e ∙ law .own-wide (m + 1) (omega arith) z in
-      let N = st .place .limit + 4 in
-      let fr = written-frame K k w st rm (omega arith) lo in
-      let other = fr .parts in
-      record {
-        frame = record {
-          start = omega arith;
-          top = t;
-          room = frame-room K st (written K k w st) _ fr rm;
-          list = other (st .place .limit + 3) (omega arith) (λ (q : st .place .limit + 3 ≡ m + 1). omega arith) ∙ f .list;
-        };
-        bound = omega arith;
-        lefts = λ i x y. other i (omega arith) (λ (q : i ≡ m + 1). omega arith) ∙ c .lefts i (omega arith) y;
-        owns = λ i x y. ⊎-elim
-            (λ (q : i ≡ m + 1). ap (λ (v : ℕ). part (K .width) (written K k w st .area) v) q ∙ own-same K N (st .area) rm (m + 1) (omega arith) (omega arith) w lo ∙ e ∙ ap own (sym q))
-            (λ (q : i ≢ m + 1). other i (omega arith) q ∙ c .owns i x (omega arith)) (eq-or i (m + 1));
-        rights = λ x. let y : m ≡ m + 1 - 1 = omega arith in
-            other (st .place .limit + 1) (omega arith) (λ (q : st .place .limit + 1 ≡ m + 1). omega arith) ∙ c .rights (omega arith) ∙ ap (λ (v : ℕ). win (st .place .boundary .0 + 1) v) y;
-      }
-
-  -- b becomes m: from own tables in parts s to m
-  pub rebuilt-laddered : (st : State) → Framed K l st → st .place .taken .0 ≤ M → st .place .start .0 ≤ st .place .taken .0
-      → ((i : ℕ) → st .place .start .0 ≤ i → i ≤ st .place .taken .0 → holds K st i ≡ own i) → Laddered K own win l (rebuilt K st)
-  unfolding rebuilt charged turned
-  rebuilt-laddered st f z h g =
-      let st1 = f .start in
-      let tp = f .top in
-      let rm = f .room in
-      let m = st .place .taken .0 in
-      let k = st .place .taken .0 - st .place .start .0 in
-      let lim = st .place .limit in
-      let N = st .place .limit + 4 in
-      let q = ladder K (st .area) m k in
-      let e = ladder-length K (law .wide) N (st .area) rm m (omega arith) k (omega arith) in
-      let rm2 : N * K .width ≤ length q = omega arith in
-      let fr = rebuilt-frame K (law .wide) st rm st1 tp in
-      record {
-        frame = record {
-          start = st1;
-          top = tp;
-          room = frame-room K st (rebuilt K st) _ fr rm;
-          list = fr .parts (lim + 3) (omega arith) (record { side = inr (omega arith); right = λ (x : lim + 3 ≡ lim + 1). omega arith }) ∙ f .list;
-        };
-        bound = le-refl m;
-        near = omega arith;
-        lefts = λ i x y. zero-other K N q rm2 (lim + 1) (omega arith) (omega arith) i (omega arith) (λ (v : i ≡ lim + 1). omega arith)
-            ∙ ladder-at N (st .area) rm m (omega arith) k (omega arith) z (λ i x y. g i (omega arith) y) i (omega arith) y;
-        owns = λ i x y. absurd (omega arith);
-        rights = λ x. absurd (omega arith);
-        empty = λ x. zero-same K N q rm2 (lim + 1) (omega arith) (omega arith);
-      }
-
-  -- pick m joins the right ladder
-  joined-right : (x : Bool) (st : State) → Ready K own win l st → st .place .taken .0 ≤ M → (T x → st .place .boundary .0 + 1 < st .place .taken .0)
-      → ((T x → ⊥) → st .place .taken .0 ≤ st .place .boundary .0 + 1)
-      → part (K .width) (joinedArea K x (st .place) (st .area)) (st .place .limit + 1) ≡ win (st .place .boundary .0 + 1) (st .place .taken .0)
-  unfolding joinedArea
-  joined-right true st c z hi lo =
-      let tp = c .frame .top in
-      let bd = c .bound in
-      let hi1 = hi tt in
-      let m = st .place .taken .0 in
-      let b = st .place .boundary .0 in
-      let lim = st .place .limit in
-      let y : m ≡ m - 1 + 1 = omega arith in
-      compose-same K (lim + 4) (st .area) (c .frame .room) (lim + 1) (omega arith) (omega arith) (law .wide) (lim + 1) m
-      ∙ ap₂ (K .join) (c .rights hi1) (c .owns m bd (le-refl m) ∙ law .single m (omega arith) z ∙ ap (λ (v : ℕ). win v m) y)
-      ∙ law .split (b + 1) (m - 1) m (omega arith) (omega arith) (omega arith) z
-  joined-right false st c z hi lo =
-      let tp = c .frame .top in
-      let bd = c .bound in
-      let lo1 = lo (λ t. t) in
-      let m = st .place .taken .0 in
-      let lim = st .place .limit in
-      let y : m ≡ st .place .boundary .0 + 1 = omega arith in
-      copy-same K (lim + 4) (st .area) (c .frame .room) (lim + 1) (omega arith) (omega arith) m (omega arith) (omega arith)
-      ∙ c .owns m bd (le-refl m) ∙ law .single m (omega arith) z ∙ ap (λ (v : ℕ). win v m) y
-
-  pub joined-laddered : (st : State) → Ready K own win l st → st .place .taken .0 ≤ M → st .place .start .0 ≤ st .place .boundary .0 + 1 → Laddered K own win l (joined K st)
-  unfolding joined charged
-  joined-laddered st c z n =
-      let f = c .frame in
-      let st1 = f .start in
-      let tp = f .top in
-      let bd = c .bound in
-      let m = st .place .taken .0 in
-      let b = st .place .boundary .0 in
-      let lim = st .place .limit in
-      let fr = joined-frame K (law .wide) st (f .room) (omega arith) tp in
-      let other = fr .parts in
-      record {
-        frame = record {
-          start = st1;
-          top = tp;
-          room = frame-room K st (joined K st) _ fr (f .room);
-          list = other (lim + 3) (omega arith) (λ (x : lim + 3 ≡ lim + 1). omega arith) ∙ f .list;
-        };
-        bound = omega arith;
-        near = n;
-        lefts = λ i x y. other i (omega arith) (λ (q : i ≡ lim + 1). omega arith) ∙ c .lefts i x y;
-        owns = λ i x y. other i (omega arith) (λ (q : i ≡ lim + 1). omega arith) ∙ c .owns i x y;
-        rights = λ x. joined-right (ltb (b + 1) m) st c z (λ t. ltb→lt (b + 1) m t) (λ t. not-lt (b + 1) m t);
-        empty = λ x. absurd (omega arith);
-      }
-
-  extended-by : (x : Bool) (st : State) → Ready K own win l st → st .place .taken .0 ≤ M → st .place .start .0 ≤ st .place .taken .0
-      → (T x → st .place .boundary .0 + 1 < st .place .start .0) → ((T x → ⊥) → st .place .start .0 ≤ st .place .boundary .0 + 1) → Laddered K own win l (extendedBy K x st)
-  unfolding extendedBy
-  extended-by true st c z h hi lo = let hi1 = hi tt in rebuilt-laddered st (c .frame) z h (λ i x y. c .owns i (omega arith) y)
-  extended-by false st c z h hi lo = joined-laddered st c z (lo (λ t. t))
-
-  -- with the number of picks that it then has
-  pub entered-by : (k : ℕ) (w : List ℕ) (st : State) → Laddered K own win l st → st .place .taken .0 + 1 ≤ M → st .place .taken .0 + 1 ≤ st .place .limit
-      → K .own (st .place .taken .0 + 1) w ≡ own (st .place .taken .0 + 1) → st .place .start .0 + k ≤ st .place .taken .0 + 1
-      → Laddered K own win l (entered K k w st) × (entered K k w st .place .taken .0 ≤ M)
-  unfolding entered extended written startMoved pickTaken extendedBy joined charged rebuilt turned
-  entered-by k w st c z t e h =
-      let b = st .place .boundary .0 in
-      let s = st .place .start .0 + k in
-      (extended-by (ltb (b + 1) s) (written K k w st) (written-ready k w st c z t e) z h (λ t. ltb→lt (b + 1) s t) (λ t. not-lt (b + 1) s t), few (ltb (b + 1) s))
-    where
-      few : (x : Bool) → extendedBy K x (written K k w st) .place .taken .0 ≤ M
-      few true = z
-      few false = z
-
-  -- the start rises within a pick (measure 1)
-  raised-by : (x : Bool) (st : State) → Laddered K own win l st → st .place .taken .0 ≤ M → st .place .start .0 < st .place .taken .0
-      → (T x → st .place .boundary .0 + 1 < st .place .start .0 + 1) → ((T x → ⊥) → st .place .start .0 + 1 ≤ st .place .boundary .0 + 1)
-      → Laddered K own win l (raisedBy K x (state (startMoved (st .place) 1) (st .area)))
-  unfolding raisedBy startMoved
-  raised-by true st c z h hi lo =
-      let f = c .frame in
-      let st1 = f .start in
-      let hi1 = hi tt in
-      rebuilt-laddered (state (startMoved (st .place) 1) (st .area)) (record { start = omega arith; top = f .top; room = f .room; list = f .list }) z (omega arith) (λ i x y. c .owns i (omega arith) y)
-  raised-by false st c z h hi lo =
-      let f = c .frame in
-      let st1 = f .start in
-      record {
-        frame = record { start = omega arith; top = f .top; room = f .room; list = f .list };
-        bound = c .bound;
-        near = lo (λ t. t);
-        lefts = λ i x y. c .lefts i (omega arith) y;
-        owns = c .owns;
-        rights = c .rights;
-        empty = c .empty;
-      }
-
-  pub raised-laddered : (st : State) → Laddered K own win l st → st .place .taken .0 ≤ M → st .place .start .0 < st .place .taken .0 → Laddered K own win l (raised K st)
-  unfolding raised startMoved
-  raised-laddered st c z h =
-      let b = st .place .boundary .0 in
-      let s = st .place .start .0 + 1 in
-      raised-by (ltb (b + 1) s) st c z h (λ t. ltb→lt (b + 1) s t) (λ t. not-lt (b + 1) s t)
-
-  -- ---- a test
-
-  -- a part that is no part of the ladders is written, the list's apart
-  apart : (st : State) (a : List ℕ) (d : ℕ) → Laddered K own win l st → st .place .limit + 2 ≤ d → d ≢ st .place .limit + 3 → length a ≡ length (st .area)
-      → ((j : ℕ) → 1 ≤ j → j ≢ d → part (K .width) a j ≡ holds K st j) → Laddered K own win l (state (st .place) a)
-  apart st a d c h ne e other =
-      let f = c .frame in
-      let st1 = f .start in
-      let tp = f .top in
-      let rm = f .room in
-      let bd = c .bound in
-      let lim = st .place .limit in
-      record {
-        frame = record { start = st1; top = tp; room = omega arith; list = other (lim + 3) (omega arith) (λ (x : lim + 3 ≡ d). ne (sym x)) ∙ f .list };
-        bound = bd;
-        near = c .near;
-        lefts = λ i x y. other i (omega arith) (λ (q : i ≡ d). omega arith) ∙ c .lefts i x y;
-        owns = λ i x y. other i (omega arith) (λ (q : i ≡ d). omega arith) ∙ c .owns i x y;
-        rights = λ x. other (lim + 1) (omega arith) (λ (q : lim + 1 ≡ d). omega arith) ∙ c .rights x;
-        empty = λ x. other (lim + 1) (omega arith) (λ (q : lim + 1 ≡ d). omega arith) ∙ c .empty x;
-      }
-
-  -- counts and flags are no part of them
-  tried-laddered : (st : State) → Laddered K own win l st → st .place .start .0 ≤ st .place .taken .0 → Laddered K own win l (tried K st)
-  unfolding tried judged windowed charged tested
-  tried-laddered st c h =
-      let tp = c .frame .top in
-      let lim = st .place .limit in
-      let fr = tried-frame K (law .wide) st (c .frame .room) (c .frame .start) (omega arith) in
-      let r = apart st (tried K st .area) (lim + 2) c (le-refl (lim + 2)) (λ (x : lim + 2 ≡ lim + 3). omega arith) (fr .size) (fr .parts) in
-      record {
-        frame = record { start = r .frame .start; top = r .frame .top; room = r .frame .room; list = r .frame .list };
-        bound = r .bound;
-        near = r .near;
-        lefts = r .lefts;
-        owns = r .owns;
-        rights = r .rights;
-        empty = r .empty;
-      }
-
-  -- part limit + 2 becomes the window s to m
-  window-by : (x y : Bool) (st : State) → Laddered K own win l st → st .place .taken .0 ≤ M → st .place .start .0 ≤ st .place .taken .0
-      → (T x → st .place .start .0 ≤ st .place .boundary .0) → ((T x → ⊥) → st .place .boundary .0 < st .place .start .0)
-      → (T y → st .place .boundary .0 < st .place .taken .0) → ((T y → ⊥) → st .place .taken .0 ≤ st .place .boundary .0)
-      → part (K .width) (windowArea K x y (st .place) (st .area)) (st .place .limit + 2) ≡ win (st .place .start .0) (st .place .taken .0)
-  unfolding windowArea
-  window-by true true st c z h x1 x0 y1 y0 =
-      let s = st .place .start .0 in
-      let b = st .place .boundary .0 in
-      let lim = st .place .limit in
-      compose-same K (lim + 4) (st .area) (c .frame .room) (lim + 2) (omega arith) (omega arith) (law .wide) s (lim + 1)
-      ∙ ap₂ (K .join) (c .lefts s (le-refl s) (x1 tt)) (c .rights (y1 tt)) ∙ law .split s b (st .place .taken .0) (c .frame .start) (x1 tt) (y1 tt) z
-  window-by true false st c z h x1 x0 y1 y0 =
-      let tp = c .frame .top in
-      let bm = y0 (λ t. t) in
-      let bd = c .bound in
-      let s = st .place .start .0 in
-      let lim = st .place .limit in
-      let e : st .place .boundary .0 ≡ st .place .taken .0 = omega arith in
-      copy-same K (lim + 4) (st .area) (c .frame .room) (lim + 2) (omega arith) (omega arith) s (c .frame .start) (omega arith)
-      ∙ c .lefts s (le-refl s) (x1 tt) ∙ ap (λ (v : ℕ). win s v) e
-  window-by false y st c z h x1 x0 y1 y0 =
-      let bs = x0 (λ t. t) in
-      let nr = c .near in
-      let lim = st .place .limit in
-      let e : st .place .boundary .0 + 1 ≡ st .place .start .0 = omega arith in
-      copy-same K (lim + 4) (st .area) (c .frame .room) (lim + 2) (omega arith) (omega arith) (lim + 1) (omega arith) (omega arith)
-      ∙ c .rights (omega arith) ∙ ap (λ (v : ℕ). win v (st .place .taken .0)) e
-
-  -- THE WINDOW TESTED is s to m: so says part limit + 2, and so says the mark
-  pub record Tests (st q : State) : Type 0 where
-    pub laddered : Laddered K own win l q
-    pub window : holds K q (st .place .limit + 2) ≡ win (st .place .start .0) (st .place .taken .0)
-    pub result : q .place .passed ≡ K .pass l (win (st .place .start .0) (st .place .taken .0))
-
-  pub tried-tests : (st : State) → Laddered K own win l st → st .place .taken .0 ≤ M → st .place .start .0 ≤ st .place .taken .0 → Tests st (tried K st)
-  unfolding tried judged tested windowed charged
-  tried-tests st c z h =
-      let s = st .place .start .0 in
-      let m = st .place .taken .0 in
-      let b = st .place .boundary .0 in
-      let r = tried-laddered st c h in
-      let v = window-by (leb s b) (ltb b m) st c z h (λ t. leb→le s b t) (λ t. not-le s b t) (λ t. ltb→lt b m t) (λ t. not-lt b m t) in
-      record { laddered = r; window = v; result = ap₂ (K .pass) (r .frame .list) v }
-
-  -- part limit + 4 is no part of the ladders
-  pub cleared-laddered : (st : State) → Laddered K own win l st → Laddered K own win l (cleared K st)
-  unfolding cleared
-  cleared-laddered st c =
-      let lim = st .place .limit in
-      let fr = cleared-frame K st (c .frame .room) in
-      apart st (cleared K st .area) (lim + 4) c (omega arith) (λ (q : lim + 4 ≡ lim + 3). omega arith) (fr .size) (fr .parts)
-
-  -- and leaves the last window as it was
-  pub cleared-window : (st : State) → Framed K l st → holds K (cleared K st) (st .place .limit + 2) ≡ holds K st (st .place .limit + 2)
-  cleared-window st f = let lim = st .place .limit in cleared-frame K st (f .room) .parts (lim + 2) (omega arith) (λ (q : lim + 2 ≡ lim + 4). omega arith)
+-- the last pick that was entered: m, and after the end of measure 1 the ending pick, which is s
+abbrev pub lastEntered : Place → ℕ
+lastEntered p = cond (eqb (p .settings .measure) 1 && not (p .marks .passed)) (p .window .start .0) (p .window .taken .0)

@@ -1,21 +1,11 @@
--- Theorems over the definitions that the contracts cite.
-pub mod Faithful
-pub mod Kits
-pub mod Stars
-pub mod Condition3
-pub mod Unlimited
-pub mod Ladders
-pub mod Costs
-pub mod MinWalk
-pub mod MaxWalk
-pub mod Runs
-pub mod Opened
-pub mod Walks
+-- The theorems over the definitions that the contracts cite, as types: what makes an answer right, what is claimed of picks, of whole runs and of the tables
+-- of reach, and what the way there speaks of. `proofs/` has the proof of each claim.
 pub mod Correct
-pub mod Measures
 pub mod Claim2
-pub mod Online
-pub mod Whole
-pub mod Joined
 pub mod Claim3
-pub mod Condition3Runs
+pub mod Condition3
+pub mod Faithful
+pub mod Facts
+pub mod Ladders
+pub mod Invariants
+pub mod Course

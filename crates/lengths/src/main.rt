@@ -5,6 +5,6 @@ fn main() {
     let mut input = [0u8; 16384];
     let n = io::read_full(0, &mut input);
     let mut out = [0u8; 462];
-    let end = report::report(&input[..n], &mut out);
+    let end = lengths_text::put_lengths(&input[..n], &mut out);
     io::write_all(STDOUT_FILENO, &out[..end]);
 }

@@ -29,11 +29,13 @@ unfolding link
 zeros-none n u v t = go (decLt u n)
   where
     go : Dec (u < n) → ⊥
-    go (yes h) = tr (ap (λ (x : ℕ). bit x v) (ap (λ (z : List ℕ). getD z u 0) (sym (tab-zero n)) ∙ getD-tab zeroWord n u h) ∙ bit-high 0 v (pow-pos v)) t
+    go (yes h) = tr (ap (λ (x : ℕ). bit x v) (ap (λ (z : List ℕ). getD z u 0) (sym (tab-zero n)) ∙ getD-tab zeroWord n u h)
+        ∙ bit-high 0 v (pow-pos v)) t
     go (no h) =
         let l = length-tab zeroWord n in
         let k : length (tab zeroWord n) ≤ u = omega arith in
-        tr (ap (λ (x : ℕ). bit x v) (ap (λ (z : List ℕ). getD z u 0) (sym (tab-zero n)) ∙ List·getD-eq-default (tab zeroWord n) 0 k) ∙ bit-high 0 v (pow-pos v)) t
+        tr (ap (λ (x : ℕ). bit x v) (ap (λ (z : List ℕ). getD z u 0) (sym (tab-zero n)) ∙ List·getD-eq-default (tab zeroWord n) 0 k)
+        ∙ bit-high 0 v (pow-pos v)) t
 
 pub bit-kept : (b : Bool) (x v : ℕ) → bit (kept b x) v ≡ b && bit x v
 bit-kept true x v = refl
@@ -67,14 +69,26 @@ pub bit-below : {n w : ℕ} (x : ℕ) → x < 2 ^ n → T (bit x w) → w < n
 bit-below {n} {w} x h m = ⊎-elim (λ (l : n ≤ w). absurd (tr (bit-high x w (lt-of-lt-of-le h (pow-mono l))) m)) (λ (l : w < n). l) (le-or-lt n w)
 
 -- the bits gathered: those of x, and those of the words that the row has the bit of
-pub gathered-bit : (x row : ℕ) (t : List ℕ) (v k : ℕ) → T (bit (gathered x row t k) v) ↔ (T (bit x v) ⊎ ((w : ℕ) × (w < k) × T (bit row w) × T (link t w v)))
+pub gathered-bit : (x row : ℕ) (t : List ℕ) (v k : ℕ)
+    → T (bit (gathered x row t k) v) ↔ (T (bit x v) ⊎ ((w : ℕ) × (w < k) × T (bit row w) × T (link t w v)))
 unfolding gathered link
-gathered-bit x row t v zero = (λ b. inl b, λ c. ⊎-elim (λ (b : T (bit x v)). b) (λ (b : (w : ℕ) × (w < 0) × T (bit row w) × T (bit (getD t w 0) v)). absurd (not-suc-le-zero (b .1))) c)
+gathered-bit x row t v zero = (
+  λ b. inl b,
+  λ c. ⊎-elim (λ (b : T (bit x v)). b)
+      (λ (b : (w : ℕ) × (w < 0) × T (bit row w) × T (bit (getD t w 0) v)). absurd (not-suc-le-zero (b .1))) c,
+)
 gathered-bit x row t v (suc k) =
-    let e : bit (bitOr g y) v ≡ bit g v || (bit row k && bit (getD t k 0) v) = bit-or g y v ∙ ap (λ (b : Bool). bit g v || b) (bit-kept (bit row k) (getD t k 0) v) in
+    let e : bit (bitOr g y) v ≡ bit g v || (bit row k && bit (getD t k 0) v) = bit-or g y v
+    ∙ ap (λ (b : Bool). bit g v || b) (bit-kept (bit row k) (getD t k 0) v) in
     let ih = gathered-bit x row t v k in (
       λ b. ⊎-elim (λ (c : T (bit g v)). wider (ih .0 c))
-          (λ (c : T (bit row k && bit (getD t k 0) v)). inr (k, omega arith, and-l (bit row k) (bit (getD t k 0) v) c, and-r (bit row k) (bit (getD t k 0) v) c))
+          (λ (c : T (bit row k && bit (getD t k 0) v)). inr (
+            k,
+            omega arith,
+            and-l (bit row k) (bit (getD t k 0) v) c,
+            and-r (bit row k)
+                (bit (getD t k 0) v) c,
+          ))
           (or-cases (bit g v) (bit row k && bit (getD t k 0) v) (tr e b)),
       λ c. tr (sym e) (last c (ih .1)),
     )
@@ -98,7 +112,8 @@ gathered-bit x row t v (suc k) =
         ⊎-elim
         (λ (e : b .0 ≡ k). or-r (bit g v) (bit row k && bit (getD t k 0) v)
         (and-both (bit row k) (bit (getD t k 0) v) (subst (λ (w : ℕ). T (bit row w)) e (b .2)) (subst (λ (w : ℕ). T (bit (getD t w 0) v)) e (b .3))))
-        (λ (e : b .0 ≢ k). let h : b .0 < suc k = b .1 in or-l (bit g v) (bit row k && bit (getD t k 0) v) (f (inr (b .0, omega arith, b .2, b .3)))) (eq-or (b .0) k)
+        (λ (e : b .0 ≢ k). let h : b .0 < suc k = b .1 in or-l (bit g v) (bit row k && bit (getD t k 0) v) (f (inr (b .0, omega arith, b .2, b .3))))
+        (eq-or (b .0) k)
 
 -- u to v in the earlier part, in the later part, or over some board w
 abbrev pub Joined : ℕ → List ℕ → List ℕ → ℕ → ℕ → Type 0
@@ -162,7 +177,8 @@ kept-lt n false x h = pow-pos n
 gathered-lt : (n x row : ℕ) (t : List ℕ) (k : ℕ) → x < 2 ^ n → ((w : ℕ) → getD t w 0 < 2 ^ n) → gathered x row t k < 2 ^ n
 unfolding gathered
 gathered-lt n x row t zero h f = h
-gathered-lt n x row t (suc k) h f = or-lt n (gathered x row t k) (kept (bit row k) (getD t k 0)) (gathered-lt n x row t k h f) (kept-lt n (bit row k) (getD t k 0) (f k))
+gathered-lt n x row t (suc k) h f = or-lt n (gathered x row t k) (kept (bit row k) (getD t k 0)) (gathered-lt n x row t k h f) (kept-lt n (bit row k)
+    (getD t k 0) (f k))
 
 pub without-lt : (n x u : ℕ) → x < 2 ^ n → without x u < 2 ^ n
 unfolding without
@@ -175,10 +191,15 @@ without-32 x u = lt-of-le-of-lt (and-le-r x (2 ^ 32 - 1 - 2 ^ u)) (omega (arith,
 
 pub compose-clean : (n : ℕ) (s t : List ℕ) → n ≤ 32 → Words n s → Words n t → Clean n (compose n s t)
 unfolding compose composeRow throughRow eitherRow
-compose-clean n s t n32 a b = record { words = w; loopless = λ u m. let h = link-from n (compose n s t) w u u m in compose-link n s t u u n32 h (lt-of-lt-of-le h n32) .0 m .0 refl }
+compose-clean n s t n32 a b = record {
+  words = w;
+  loopless = λ u m. let h = link-from n (compose n s t) w u u m in compose-link n s t u u n32 h
+      (lt-of-lt-of-le h n32) .0 m .0 refl;
+}
   where
     w : Words n (tab (composeRow n s t) n)
-    w = tab-words n (composeRow n s t) (λ u h. without-lt n _ u (gathered-lt n _ (getD s u 0) t n (or-lt n (getD s u 0) (getD t u 0) (a .small u) (b .small u)) (b .small)))
+    w = tab-words n (composeRow n s t) (λ u h. without-lt n _ u (gathered-lt n _ (getD s u 0) t n (or-lt n (getD s u 0) (getD t u 0) (a .small u)
+        (b .small u)) (b .small)))
 
 pub intersection-clean : (n : ℕ) (s t : List ℕ) → Clean n s → Words n t → Clean n (intersection n s t)
 unfolding intersection bothRow
@@ -194,7 +215,8 @@ pub union-clean : (n : ℕ) (s t : List ℕ) → Clean n s → Clean n t → Cle
 unfolding union eitherRow
 union-clean n s t a b = record {
   words = w;
-  loopless = λ u m. ⊎-elim (a .loopless u) (b .loopless u) (or-cases (link s u u) (link t u u) (tr (union-link n s t u u (link-from n (union n s t) w u u m)) m));
+  loopless = λ u m. ⊎-elim (a .loopless u) (b .loopless u) (or-cases (link s u u) (link t u u)
+      (tr (union-link n s t u u (link-from n (union n s t) w u u m)) m));
 }
   where
     w : Words n (tab (eitherRow s t) n)

@@ -18,9 +18,12 @@ first-bit (suc k) x h ne =
     (λ (e : x % 2 ≢ 1). let z : x % 2 ≡ 0 = omega arith in even z (first-bit k (x / 2) (omega arith) (λ q. ne (omega arith)))) (eq-or (x % 2) 1)
   where
     odd : x % 2 ≡ 1 → (under (x % 2) (trailingZeros k (x / 2)) < suc k) × T (bit x (under (x % 2) (trailingZeros k (x / 2))))
-    odd e = subst (λ (d : ℕ). (under d (trailingZeros k (x / 2)) < suc k) × T (bit x (under d (trailingZeros k (x / 2))))) (sym e) (omega arith, tr (sym (bit-zero x)) (eq-refl e))
+    odd e = subst (λ (d : ℕ). (under d (trailingZeros k (x / 2)) < suc k) × T (bit x (under d (trailingZeros k (x / 2))))) (sym e)
+        (omega arith, tr (sym (bit-zero x)) (eq-refl e))
 
-    even : x % 2 ≡ 0 → (trailingZeros k (x / 2) < k) × T (bit (x / 2) (trailingZeros k (x / 2))) → (under (x % 2) (trailingZeros k (x / 2)) < suc k) × T (bit x (under (x % 2) (trailingZeros k (x / 2))))
+    even : x % 2 ≡ 0 → (trailingZeros k (x / 2) < k) × T (bit (x / 2) (trailingZeros k (x / 2))) → (under (x % 2) (trailingZeros k (x / 2)) < suc k)
+        × T (bit x (under (x % 2) (trailingZeros k (x / 2))))
     even e q =
         let l : trailingZeros k (x / 2) < k = q .0 in
-        subst (λ (d : ℕ). (under d (trailingZeros k (x / 2)) < suc k) × T (bit x (under d (trailingZeros k (x / 2))))) (sym e) (omega arith, tr (sym (bit-suc x (trailingZeros k (x / 2)))) (q .1))
+        subst (λ (d : ℕ). (under d (trailingZeros k (x / 2)) < suc k) × T (bit x (under d (trailingZeros k (x / 2))))) (sym e)
+        (omega arith, tr (sym (bit-suc x (trailingZeros k (x / 2)))) (q .1))

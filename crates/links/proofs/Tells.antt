@@ -27,7 +27,8 @@ use Rattle.links.proofs.Ways.{Way, one, more, Short, within-way}
 pub marks-once : {n : ℕ} {R : ℕ → ℕ → Type 0} {s t : List ℕ} → Marks n R s → Marks n R t → s ≡ t
 marks-once {n} {R} {s} {t} a b =
     links-ext n s t (a .clean .words) (b .clean .words)
-    (λ u v hu hv. bool-ext (link s u v) (link t u v) (λ m. b .marks u v hu hv .1 (a .marks u v hu hv .0 m)) (λ m. a .marks u v hu hv .1 (b .marks u v hu hv .0 m)))
+    (λ u v hu hv. bool-ext (link s u v) (link t u v) (λ m. b .marks u v hu hv .1 (a .marks u v hu hv .0 m))
+    (λ m. a .marks u v hu hv .1 (b .marks u v hu hv .0 m)))
 
 -- ---- measure 1
 
@@ -45,7 +46,8 @@ common-join n r i k j s t p q a b = record {
       let e = intersection-link n s t u v hu in (
         λ m x y z. ⊎-elim (λ (l : x ≤ k). a .marks u v hu hv .0 (and-l (link s u v) (link t u v) (tr e m)) x y l)
             (λ (l : k < x). b .marks u v hu hv .0 (and-r (link s u v) (link t u v) (tr e m)) x l z) (le-or-lt x k),
-        λ f. tr (sym e) (and-both (link s u v) (link t u v) (a .marks u v hu hv .1 (λ x y z. f x y (omega arith))) (b .marks u v hu hv .1 (λ x y z. f x (omega arith) z))),
+        λ f. tr (sym e) (and-both (link s u v) (link t u v) (a .marks u v hu hv .1 (λ x y z. f x y (omega arith)))
+            (b .marks u v hu hv .1 (λ x y z. f x (omega arith) z))),
       );
 }
 
@@ -67,7 +69,8 @@ footprint-join n r i k j s t p q a b = record {
   marks = λ u v hu hv.
       let e = union-link n s t u v hu in (
         λ m. ⊎-elim (λ (l : T (link s u v)). let f = a .marks u v hu hv .0 l in let x : f .0 ≤ k = f .2 in (f .0, f .1, omega arith, f .3))
-            (λ (l : T (link t u v)). let f = b .marks u v hu hv .0 l in let x : suc k ≤ f .0 = f .1 in (f .0, omega arith, f .2, f .3)) (or-cases (link s u v) (link t u v) (tr e m)),
+            (λ (l : T (link t u v)). let f = b .marks u v hu hv .0 l in let x : suc k ≤ f .0 = f .1 in (f .0, omega arith, f .2, f .3))
+            (or-cases (link s u v) (link t u v) (tr e m)),
         λ f. tr (sym e) (⊎-elim (λ (l : f .0 ≤ k). or-l (link s u v) (link t u v) (a .marks u v hu hv .1 (f .0, f .1, l, f .3)))
             (λ (l : k < f .0). or-r (link s u v) (link t u v) (b .marks u v hu hv .1 (f .0, l, f .2, f .3))) (le-or-lt (f .0) k)),
       );
@@ -100,7 +103,8 @@ unfolding within
 within-clean n zero p n32 k = zeros-clean n
 within-clean n (suc h) p n32 k = compose-clean n (within n h p) p n32 (within-clean n h p n32 k .words) (k .words)
 
-pub reach-own : (n h : ℕ) (r : List (List ℕ)) → n ≤ 32 → Recording n r → (i : ℕ) → 1 ≤ i → i ≤ length r → Marks n (Reaches r (atMost h) i i) (within n h (pickAt r i))
+pub reach-own : (n h : ℕ) (r : List (List ℕ)) → n ≤ 32 → Recording n r → (i : ℕ) → 1 ≤ i → i ≤ length r
+    → Marks n (Reaches r (atMost h) i i) (within n h (pickAt r i))
 reach-own n h r n32 k i a b =
     let p = pickAt r i in
     let c = pick-at n r k i a b in
@@ -114,7 +118,8 @@ reach-own n h r n32 k i a b =
           );
     }
 
-pub reach-join : (n : ℕ) (L : Limit) (r : List (List ℕ)) → n ≤ 32 → Recording n r → (i k j : ℕ) (s t : List ℕ) → 1 ≤ i → i ≤ k → k < j → j ≤ length r
+pub reach-join : (n : ℕ) (L : Limit) (r : List (List ℕ)) → n ≤ 32 → Recording n r → (i k j : ℕ) (s t : List ℕ) → 1 ≤ i → i ≤ k
+    → k < j → j ≤ length r
     → Marks n (Reaches r L i k) s → Marks n (Reaches r L (suc k) j) t → Marks n (Reaches r L i j) (compose n s t)
 reach-join n L r n32 rec i k j s t hi hk hj hM a b = record {
   clean = compose-clean n s t n32 (a .clean .words) (b .clean .words);
@@ -126,7 +131,12 @@ reach-join n L r n32 rec i k j s t hi hk hj hM a b = record {
           ⊎-elim (λ (l : T (link s u v)). journey-wider (le-refl i) (omega arith) (a .marks u v hu hv .0 l .1))
               (λ (l : T (link t u v) ⊎ ((w : ℕ) × (w < n) × T (link s u w) × T (link t w v))).
               ⊎-elim (λ (x : T (link t u v)). journey-wider (omega arith) (le-refl j) (b .marks u v hu hv .0 x .1))
-              (λ (x : (w : ℕ) × (w < n) × T (link s u w) × T (link t w v)). c .1 (x .0, a .marks u (x .0) hu (x .1) .0 (x .2) .1, b .marks (x .0) v (x .1) hv .0 (x .3) .1)) l) (e .0 m .1),
+              (λ (x : (w : ℕ) × (w < n) × T (link s u w) × T (link t w v)). c .1 (
+                x .0,
+                a .marks u (x .0) hu (x .1) .0 (x .2) .1,
+                b .marks (x .0) v
+                    (x .1) hv .0 (x .3) .1,
+              )) l) (e .0 m .1),
         ),
         λ q. let w = c .0 (q .1) in
             let hw = journey-to n L r rec i k u (w .0) hi (omega arith) (omega arith) hu (w .1) in
@@ -134,20 +144,23 @@ reach-join n L r n32 rec i k j s t hi hk hj hM a b = record {
               q .0,
               ⊎-elim (λ (x : u ≡ w .0). inr (inl (b .marks u v hu hv .1 (q .0, subst (λ (y : ℕ). Journey r L (suc k) j y v) (sym x) (w .2)))))
                   (λ (x : u ≢ w .0). ⊎-elim (λ (y : w .0 ≡ v). inl (a .marks u v hu hv .1 (q .0, subst (λ (z : ℕ). Journey r L i k u z) y (w .1))))
-                  (λ (y : w .0 ≢ v). inr (inr (w .0, hw, a .marks u (w .0) hu hw .1 (x, w .1), b .marks (w .0) v hw hv .1 (y, w .2)))) (eq-or (w .0) v)) (eq-or u (w .0)),
+                  (λ (y : w .0 ≢ v). inr (inr (w .0, hw, a .marks u (w .0) hu hw .1 (x, w .1), b .marks (w .0) v hw hv .1 (y, w .2)))) (eq-or (w .0) v))
+                  (eq-or u (w .0)),
             ),
       );
 }
 
 -- ---- tests
 
-pub full-test : (n : ℕ) (J : ℕ → ℕ → Type 0) (t : List ℕ) → ((u v : ℕ) → u < n → v < n → T (link t u v) ↔ ((u ≢ v) × J u v)) → T (full n t) ↔ EveryPair n J
+pub full-test : (n : ℕ) (J : ℕ → ℕ → Type 0) (t : List ℕ) → ((u v : ℕ) → u < n → v < n → T (link t u v) ↔ ((u ≢ v) × J u v))
+    → T (full n t) ↔ EveryPair n J
 unfolding full rowFull pairFull
 full-test n J t f = (
   λ m u v hu hv ne. ⊎-elim (λ (e : T (eqb u v)). absurd (ne (eqb→eq u v e))) (λ (l : T (link t u v)). f u v hu hv .0 l .1)
       (or-cases (eqb u v) (link t u v) (every-out (pairFull t u) n (every-out (rowFull n t) n m u hu) v hv)),
   λ g. every-in (rowFull n t) n (λ u hu. every-in (pairFull t u) n (λ v hv.
-      ⊎-elim (λ (e : u ≡ v). or-l (eqb u v) (link t u v) (eq-refl e)) (λ (ne : u ≢ v). or-r (eqb u v) (link t u v) (f u v hu hv .1 (ne, g u v hu hv ne))) (eq-or u v))),
+      ⊎-elim (λ (e : u ≡ v). or-l (eqb u v) (link t u v) (eq-refl e)) (λ (ne : u ≢ v). or-r (eqb u v) (link t u v)
+      (f u v hu hv .1 (ne, g u v hu hv ne))) (eq-or u v))),
 )
 
 -- R joins boards below n alone
@@ -155,12 +168,17 @@ abbrev pub Below : ℕ → (ℕ → ℕ → Type 0) → Type 0
 Below n R = (u v : ℕ) → R u v → (u < n) × (v < n)
 
 -- measure 1: links of the table lead everywhere exactly when those of R do
-pub connected-test : (n : ℕ) (R : ℕ → ℕ → Type 0) (t : List ℕ) → n ≤ 32 → Below n R → Marks n R t → T (connected n t) ↔ EveryPair n (Leads R)
+pub connected-test : (n : ℕ) (R : ℕ → ℕ → Type 0) (t : List ℕ) → n ≤ 32 → Below n R → Marks n R t
+    → T (connected n t) ↔ EveryPair n (Leads R)
 unfolding connected
 connected-test n R t n32 low a = full-test n (Leads R) (within n 31 t) (λ u v hu hv.
     let e = within-way n 31 t n32 u v hu (lt-of-lt-of-le hv n32) in (
       λ m. let q = e .0 m in (q .0, leads hu (way-walk (q .1 .2))),
-      λ q. e .1 (q .0, let s = walks hu (q .1) in let d = walk-short (a .clean .words) hu (s .1) in let l : d .0 < n = d .1 in hop-short (a .clean .words) (q .0) (d .0, omega arith, d .2)),
+      λ q. e .1 (
+        q .0,
+        let s = walks hu (q .1) in let d = walk-short (a .clean .words) hu (s .1) in let l : d .0 < n = d .1 in hop-short (a .clean .words)
+            (q .0) (d .0, omega arith, d .2),
+      ),
     ))
   where
     leads : {c u v : ℕ} → u < n → Walk t c u v → Leads R u v
@@ -177,7 +195,8 @@ connected-test n R t n32 low a = full-test n (Leads R) (within n 31 t) (λ u v h
         (suc (q .0), step (a .marks u w hu hw .1 x) (q .1))
 
 -- measure 2: the words are those of the footprint exactly when R is
-pub same-test : (n : ℕ) (R : ℕ → ℕ → Type 0) (footprint t : List ℕ) → Clean n footprint → Below n R → Marks n R t → T (same n footprint t) ↔ ((u v : ℕ) → R u v ↔ T (link footprint u v))
+pub same-test : (n : ℕ) (R : ℕ → ℕ → Type 0) (footprint t : List ℕ) → Clean n footprint → Below n R → Marks n R t
+    → T (same n footprint t) ↔ ((u v : ℕ) → R u v ↔ T (link footprint u v))
 unfolding same rowSame
 same-test n R l t k low a = (
   λ m. let e = equal m in λ u v. (

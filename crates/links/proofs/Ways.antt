@@ -37,7 +37,8 @@ abbrev pub Short : ℕ → ℕ → List ℕ → ℕ → ℕ → Type 0
 Short n h t u v = (c : ℕ) × (c ≤ h) × Way t n c u v
 
 -- a way of at most h + 1 links, as the composition takes it apart
-pub last-link : {n h c u v : ℕ} {t : List ℕ} → c ≤ suc h → Way t n c u v → T (link t u v) ⊎ ((w : ℕ) × (w < n) × Short n h t u w × T (link t w v))
+pub last-link : {n h c u v : ℕ} {t : List ℕ} → c ≤ suc h → Way t n c u v
+    → T (link t u v) ⊎ ((w : ℕ) × (w < n) × Short n h t u w × T (link t w v))
 last-link l (one m) = inl m
 last-link l (more {c = c} m k s) = let r = unsnoc m k s in inr (r .0, r .1, (c, le-of-suc-le-suc l, r .2), r .3)
 
@@ -86,12 +87,17 @@ path-way : (n : ℕ) (t : List ℕ) {d u v : ℕ} → u ≢ v → Path (Step n t
 path-way n t ne end = absurd (ne refl)
 path-way n t ne (next {c = c} {u = u} {w = w} {v = v} l s) =
     ⊎-elim (λ (e : w ≡ v). (1, omega arith, one (subst (λ (x : ℕ). T (link t u x)) e (l .0))))
-    (λ (e : w ≢ v). let q = path-way n t e s in let h : q .0 ≤ c = q .1 in (suc (q .0), omega arith, more (l .0) (⊎-elim (λ (x : w < n). x) (λ (x : w ≡ v). absurd (e x)) (l .1)) (q .2)))
+    (λ (e : w ≢ v). let q = path-way n t e s in let h : q .0 ≤ c = q .1 in (
+      suc (q .0),
+      omega arith,
+      more (l .0) (⊎-elim (λ (x : w < n). x) (λ (x : w ≡ v). absurd (e x)) (l .1)) (q .2),
+    ))
     (eq-or w v)
 
 pub way-short : {n c u v : ℕ} {t : List ℕ} → n ≤ 32 → u < n → v < 32 → u ≢ v → Way t n c u v → Short n 31 t u v
 way-short {n} {t = t} n32 hu hv ne s =
-    let q = path-short 32 (λ x w l. ⊎-elim (λ (h : w < n). lt-of-lt-of-le h n32) (λ (e : w ≡ _). subst (λ (y : ℕ). y < 32) (sym e) hv) (l .1)) (lt-of-lt-of-le hu n32) (way-path s) in
+    let q = path-short 32 (λ x w l. ⊎-elim (λ (h : w < n). lt-of-lt-of-le h n32) (λ (e : w ≡ _). subst (λ (y : ℕ). y < 32) (sym e) hv) (l .1))
+    (lt-of-lt-of-le hu n32) (way-path s) in
     let r = path-way n t ne (q .2) in
     let a : q .0 < 32 = q .1 in
     let b : r .0 ≤ q .0 = r .1 in

@@ -8,10 +8,10 @@ use mathlib.Core.Logic.{⊎-elim}
 use native.Mathlib.Omega.{arith}
 use native.Mathlib.Nat.{not-suc-le-zero, eq-or-lt-of-le, le-of-suc-le-suc}
 use lib.Dec.{T}
-use lib.ListN.{length, take, drop, set, getD, length-append, drop-of-length-le, length-set, List·getD-append, length-replicate, replicate}
-use lib.Seq.{set-at, getD-at, drop-cons, take-suc, append-snoc, length-take-le, take-length, take-at, drop-at, ext-getD}
+use lib.ListN.{length, drop, set, getD, length-append, drop-of-length-le, length-set, List·getD-append, length-replicate, replicate}
+use lib.Seq.{set-at, getD-at, drop-cons, ext-getD}
 use Rattle.model.proofs.Logic.{and-both, and-l, and-r}
-use Rattle.lists.specs.Tab.{tab, zeros, padded, every}
+use Rattle.lists.specs.Tab.{tab, zeros, every}
 
 pub length-tab : (f : ℕ → ℕ) (k : ℕ) → length (tab f k) ≡ k
 unfolding tab
@@ -66,38 +66,6 @@ module _ {f : ℕ → ℕ} {n : ℕ} {t₀ t : List ℕ} {u : ℕ} (m : Made f n
       let r : length t₀ ≤ n = omega (arith, m .size) in
       m .made ∙ rw (q, drop-of-length-le t₀ {i = n} r) (append-nil (tab f n))
 
--- The invariant of a loop that copies xs over the front of ys: t is xs's words below u, and ys's from u on.
-pub record Copied (xs ys t : List ℕ) (u : ℕ) : Type 0 where
-  pub size : length xs ≤ length ys
-  pub low : u ≤ length xs
-  pub long : length t ≡ length ys
-  pub made : t ≡ take u xs ++ drop u ys
-
-pub copied-start : {xs ys : List ℕ} → length xs ≤ length ys → Copied xs ys ys 0
-copied-start h = record { size = h; low = zero-le; long = refl; made = refl }
-
-module _ {xs ys t : List ℕ} {u : ℕ} (m : Copied xs ys t u) where
-  pub copied-turn : u < length xs → Copied xs ys (set t u (getD xs u 0)) (u + 1)
-  copied-turn h =
-      let l : u < length ys = omega arith in
-      record {
-        size = m .size;
-        low = omega arith;
-        long = length-set t u (getD xs u 0) ∙ m .long;
-        made =
-            rw (m .made, add-one, drop-cons ys u 0, take-suc xs u 0)
-            (set-at (take u xs) _ _ (getD xs u 0) u (length-take-le u xs (m .low)) ∙ sym (append-snoc (take u xs) (getD xs u 0) _));
-      }
-
-  pub copied-all : length xs ≤ u → t ≡ xs ++ drop (length xs) ys
-  copied-all h =
-      let q : u ≡ length xs = omega (arith, m .low) in
-      m .made ∙ rw (q, take-length)
-
-  -- over a list that is as long
-  pub copied-whole : length xs ≤ u → length ys ≡ length xs → t ≡ xs
-  copied-whole h e = copied-all h ∙ rw (drop-of-length-le ys {i = length xs} (omega (arith, e))) (append-nil xs)
-
 -- lists made by index are equal when their elements are
 pub tab-ext : (f g : ℕ → ℕ) (k : ℕ) → ((i : ℕ) → i < k → f i ≡ g i) → tab f k ≡ tab g k
 tab-ext f g k h =
@@ -122,15 +90,6 @@ pub tab-zero : (n : ℕ) → tab zeroWord n ≡ zeros n
 unfolding tab zeros
 tab-zero zero = refl
 tab-zero (suc n) = ap (λ (l : List ℕ). l ++ (0 ∷ [])) (tab-zero n) ∙ one-more n
-
--- the words of a padded copy
-pub take-padded : (k n : ℕ) (w : List ℕ) → length w ≡ n → take n (padded k w) ≡ w
-unfolding padded
-take-padded k n w e = take-at w (drop (length w) (zeros k)) n e
-
-pub drop-padded : (k n : ℕ) (w : List ℕ) → length w ≡ n → drop n (padded k w) ≡ drop n (zeros k)
-unfolding padded
-drop-padded k n w e = drop-at w (drop (length w) (zeros k)) n e ∙ ap (λ (i : ℕ). drop i (zeros k)) e
 
 -- ---- tests over the numbers below n
 
@@ -160,7 +119,8 @@ pub every-out : (f : ℕ → Bool) (n : ℕ) → T (every f n) → (w : ℕ) →
 unfolding every
 every-out f zero t w h = absurd (not-suc-le-zero h)
 every-out f (suc n) t w h =
-    ⊎-elim (λ (e : w ≡ n). rw e (and-r (every f n) (f n) t)) (λ (l : w < n). every-out f n (and-l (every f n) (f n) t) w l) (eq-or-lt-of-le (le-of-suc-le-suc h))
+    ⊎-elim (λ (e : w ≡ n). rw e (and-r (every f n) (f n) t)) (λ (l : w < n). every-out f n (and-l (every f n) (f n) t) w l)
+    (eq-or-lt-of-le (le-of-suc-le-suc h))
 
 pub every-in : (f : ℕ → Bool) (n : ℕ) → ((w : ℕ) → w < n → T (f w)) → T (every f n)
 unfolding every

@@ -3,7 +3,7 @@ use mathlib.Core.Bool.{Bool, true, false, _&&_}
 use mathlib.Core.List.{List, [], _∷_, _++_}
 use Prim.Native.Nat.{ℕ, zero, suc}
 use lib.Bits.{bitOr}
-use lib.ListN.{length, drop, replicate}
+use lib.ListN.{take, drop, replicate}
 
 -- f 0, f 1, .., f (k - 1)
 unfoldable pub tab : (ℕ → ℕ) → ℕ → List ℕ
@@ -19,9 +19,9 @@ kept false x = 0
 unfoldable pub zeros : ℕ → List ℕ
 zeros k = replicate k 0
 
--- the words xs, and zeros up to k
-unfoldable pub padded : ℕ → List ℕ → List ℕ
-padded k xs = xs ++ drop (length xs) (zeros k)
+-- the words a, with xs in place of the e words from word k on. It is shut: `proofs/Splice` has its laws.
+unfoldable pub splice : ℕ → ℕ → List ℕ → List ℕ → List ℕ
+splice k e xs a = take k a ++ (xs ++ drop e (drop k a))
 
 -- f 0, .., f (k - 1), or-ed
 unfoldable pub anyOf : (ℕ → ℕ) → ℕ → ℕ

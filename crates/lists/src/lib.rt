@@ -3,7 +3,7 @@ ghost use mathlib.Core.Path.{_≡_};
 ghost use Prim.Native.Nat.{_≤_};
 ghost use lib.ListN.{length, getD};
 ghost use lib.Dec.{eqb};
-ghost use Rattle.lists.specs.Tab.{kept, anyOf, zeros, padded};
+ghost use Rattle.lists.specs.Tab.{kept, anyOf, zeros, splice};
 
 // x where a bit is 1, else 0: a select, so that a loop over it has no branch.
 pub fn keep(x: u32, digit: u32) -> u32
@@ -61,7 +61,7 @@ pub fn no_times() -> [u32; 2048]
 // The n words of xs by value, and zeros up to 32.
 pub fn load(xs: &[u32], n: usize) -> [u32; 32]
     requires { ⌜ (n ≤ 32) × (n ≡ length (now xs)) ⌝ }
-    ensures { λ r. ⌜ r ≡ padded 32 (now (xs .entry)) ⌝ }
+    ensures { λ r. ⌜ r ≡ splice 0 n (now (xs .entry)) (zeros 32) ⌝ }
 {
     let mut out = no_words();
     for u in 0..n {

@@ -1,32 +1,33 @@
 -- A measure over n boards, as the walk needs it: the words of a table, a pick's own table, the composition, the test of a table. Only the
 -- definitions here go by the measure's number (1 common, 2 return, 3 reach, 4 round trip); the walk is written once, over a kit.
 use Prim.Native.Nat.{ℕ, _+_, _*_}
-use mathlib.Core.Bool.{Bool, true, false}
+use mathlib.Core.Bool.{Bool, true, false, cond}
 use mathlib.Core.List.{List}
 use lib.Dec.{eqb}
 use Rattle.links.specs.Tables.{intersection, union, compose, within, full, connected, same}
 use Rattle.times.specs.Times.{composeTimes, ownTimes, allInTime}
 
-module _ {A : Type 0} where
-  abbrev pub either : Bool → A → A → A
-  either true x y = x
-  either false x y = y
-
 -- E of document 01: the words of a table
 unfoldable pub widthOf : ℕ → ℕ → ℕ
-widthOf measure n = either (eqb measure 4) (n * n + n * n) n
+widthOf measure n = cond (eqb measure 4) (n * n + n * n) n
 
 -- pick i's own table, with at most `hops` links crossed in it
 unfoldable pub ownOf : ℕ → ℕ → ℕ → ℕ → List ℕ → List ℕ
-ownOf hops measure n i w = either (eqb measure 4) (ownTimes n i (within n hops w)) (either (eqb measure 3) (within n hops w) w)
+ownOf hops measure n i w = cond (eqb measure 4) (ownTimes n i (within n hops w)) (cond (eqb measure 3) (within n hops w) w)
 
 -- the composition of an earlier table with a later one
 unfoldable pub joinOf : ℕ → ℕ → List ℕ → List ℕ → List ℕ
-joinOf measure n s t = either (eqb measure 4) (composeTimes n s t) (either (eqb measure 3) (compose n s t) (either (eqb measure 2) (union n s t) (intersection n s t)))
+joinOf measure n s t =
+    cond (eqb measure 4) (composeTimes n s t)
+    (cond (eqb measure 3) (compose n s t)
+    (cond (eqb measure 2) (union n s t) (intersection n s t)))
 
 -- whether a table passes; a round trip turns round in `turn` picks, and the footprint is that of measure 2
 unfoldable pub passOf : ℕ → ℕ → ℕ → List ℕ → List ℕ → Bool
-passOf turn measure n footprint t = either (eqb measure 4) (allInTime n turn t) (either (eqb measure 3) (full n t) (either (eqb measure 2) (same n footprint t) (connected n t)))
+passOf turn measure n footprint t =
+    cond (eqb measure 4) (allInTime n turn t)
+    (cond (eqb measure 3) (full n t)
+    (cond (eqb measure 2) (same n footprint t) (connected n t)))
 
 pub record Kit : Type 0 where
   pub width : ℕ
@@ -38,6 +39,12 @@ pub record Kit : Type 0 where
 abbrev pub kitWith : ℕ → ℕ → ℕ → ℕ → Kit
 kitWith hops turn measure n = record { width = widthOf measure n; own = ownOf hops measure n; join = joinOf measure n; pass = passOf turn measure n }
 
--- the kit of document 01: 31 links are no limit for 32 boards, and a round trip may turn round within a pick
+-- document 01's: 31 links are no limit for 32 boards, and a round trip may turn round within a pick
+abbrev pub hops01 : ℕ
+hops01 = 31
+
+abbrev pub turn01 : ℕ
+turn01 = 0
+
 abbrev pub kit : ℕ → ℕ → Kit
-kit measure n = kitWith 31 0 measure n
+kit measure n = kitWith hops01 turn01 measure n

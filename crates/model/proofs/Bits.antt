@@ -31,8 +31,10 @@ val-le false = omega arith
 pub bits-ext : (n w x : ℕ) → w < 2 ^ n → x < 2 ^ n → ((b : ℕ) → b < n → bit w b ≡ bit x b) → w ≡ x
 bits-ext zero w x hw hx h = omega arith
 bits-ext (suc n) w x hw hx h =
-    let top : w / 2 ≡ x / 2 = bits-ext n (w / 2) (x / 2) (omega arith) (omega arith) (λ b l. sym (bit-suc w b) ∙ h (suc b) (suc-le-suc l) ∙ bit-suc x b) in
-    let bot : w % 2 ≡ x % 2 = digit (w % 2) (x % 2) (mod-lt w (zero-lt-suc 1)) (mod-lt x (zero-lt-suc 1)) (sym (bit-zero w) ∙ h 0 (zero-lt-suc n) ∙ bit-zero x) in
+    let top : w / 2 ≡ x / 2 = bits-ext n (w / 2) (x / 2) (omega arith) (omega arith) (λ b l. sym (bit-suc w b) ∙ h (suc b) (suc-le-suc l)
+    ∙ bit-suc x b) in
+    let bot : w % 2 ≡ x % 2 = digit (w % 2) (x % 2) (mod-lt w (zero-lt-suc 1)) (mod-lt x (zero-lt-suc 1))
+    (sym (bit-zero w) ∙ h 0 (zero-lt-suc n) ∙ bit-zero x) in
     omega arith
   where
     digit : (a c : ℕ) → a < 2 → c < 2 → eqb a 1 ≡ eqb c 1 → a ≡ c
@@ -84,7 +86,8 @@ pub bit-one : (b k : ℕ) → bit (2 ^ b) k ≡ eqb b k
 bit-one zero zero = bit-zero 1
 bit-one zero (suc k) = bit-suc 1 k ∙ bit-high 0 k (pow-pos k) ∙ sym (eqb·zero-suc k)
 bit-one (suc b) zero = bit-zero (2 ^ suc b) ∙ ap (λ (x : ℕ). eqb x 1) (let e : 2 ^ suc b % 2 ≡ 0 = omega arith in e) ∙ sym (eqb·suc-zero b)
-bit-one (suc b) (suc k) = bit-suc (2 ^ suc b) k ∙ ap (λ (x : ℕ). bit x k) (let e : 2 ^ suc b / 2 ≡ 2 ^ b = omega arith in e) ∙ bit-one b k ∙ sym (eqb·suc-suc b k)
+bit-one (suc b) (suc k) = bit-suc (2 ^ suc b) k ∙ ap (λ (x : ℕ). bit x k) (let e : 2 ^ suc b / 2 ≡ 2 ^ b = omega arith in e) ∙ bit-one b k
+    ∙ sym (eqb·suc-suc b k)
 
 -- the word of the other bits below k: `!x` at k bits
 pub bit-complement : (k x b : ℕ) → x < 2 ^ k → b < k → bit (2 ^ k - 1 - x) b ≡ not (bit x b)

@@ -48,7 +48,8 @@ val-out S u n e = go (less S u n) (λ t. ne-eqb n u (and-r (S n) (not (eqb n u))
 num-less : (n : ℕ) (S : ℕ → Bool) (u : ℕ) → u < n → T (S u) → num n (less S u) < num n S
 num-less zero S u h t = absurd (not-suc-le-zero h)
 num-less (suc n) S u h t =
-    ⊎-elim (λ (e : n ≡ u). let a = val-out S u n e in let b : val (S n) ≡ 1 = ap val (T→≡ (S n) (subst (λ (k : ℕ). T (S k)) (sym e) t)) in omega (arith, num-le n S u))
+    ⊎-elim (λ (e : n ≡ u). let a = val-out S u n e in let b : val (S n)
+    ≡ 1 = ap val (T→≡ (S n) (subst (λ (k : ℕ). T (S k)) (sym e) t)) in omega (arith, num-le n S u))
     (λ (ne : n ≢ u). omega (arith, num-less n S u (omega arith) t, val-mono (less S u n) (S n) (λ k. and-l (S n) (not (eqb n u)) k))) (eq-or n u)
 
 -- c steps of R lead from u to v
@@ -75,13 +76,19 @@ module _ {R : ℕ → ℕ → Type 0} where
   leave {S = S} u ne (halt {u = v} t) = inl (halt (and-both (S v) (not (eqb v u)) t (eqb-ne v u (λ e. ne (sym e)))))
   leave {S} {v = v} u ne (move {u = x} {w = w} t k s) = go (leave u ne s)
     where
-      go : Among R (less S u) w v ⊎ ((y : ℕ) × R u y × Among R (less S u) y v) → Among R (less S u) x v ⊎ ((y : ℕ) × R u y × Among R (less S u) y v)
+      go : Among R (less S u) w v ⊎ ((y : ℕ) × R u y × Among R (less S u) y v)
+          → Among R (less S u) x v ⊎ ((y : ℕ) × R u y × Among R (less S u) y v)
       go (inr r) = inr r
       go (inl r) =
-          ⊎-elim (λ (e : x ≡ u). inr (w, subst (λ (y : ℕ). R y w) e k, r)) (λ (d : x ≢ u). inl (move (and-both (S x) (not (eqb x u)) t (eqb-ne x u d)) k r)) (eq-or x u)
+          ⊎-elim (λ (e : x ≡ u). inr (
+            w,
+            subst (λ (y : ℕ). R y w) e k,
+            r,
+          )) (λ (d : x ≢ u). inl (move (and-both (S x) (not (eqb x u)) t (eqb-ne x u d)) k r)) (eq-or x u)
 
   -- so a path in a set of at most k boards can be one of fewer than k steps
-  cut : (n : ℕ) → ((u w : ℕ) → R u w → w < n) → (k : ℕ) (S : ℕ → Bool) → num n S ≤ k → (u v : ℕ) → u < n → Among R S u v → (c : ℕ) × (c < k) × Path R c u v
+  cut : (n : ℕ) → ((u w : ℕ) → R u w → w < n) → (k : ℕ) (S : ℕ → Bool) → num n S ≤ k → (u v : ℕ) → u < n → Among R S u v
+      → (c : ℕ) × (c < k) × Path R c u v
   cut n low zero S l u v hu s = absurd (not-suc-le-zero (le-trans (num-less n S u hu (starts s)) l))
   cut n low (suc k) S l u v hu s =
       ⊎-elim (λ (e : u ≡ v). (0, omega arith, subst (λ (y : ℕ). Path R 0 u y) e end))
@@ -94,7 +101,8 @@ module _ {R : ℕ → ℕ → Type 0} where
       (leave u ne s)) (eq-or u v)
 
 -- a path over boards below n can be one of fewer than n steps
-pub path-short : {R : ℕ → ℕ → Type 0} {c u v : ℕ} (n : ℕ) → ((u w : ℕ) → R u w → w < n) → u < n → Path R c u v → (d : ℕ) × (d < n) × Path R d u v
+pub path-short : {R : ℕ → ℕ → Type 0} {c u v : ℕ} (n : ℕ) → ((u w : ℕ) → R u w → w < n) → u < n → Path R c u v → (d : ℕ)
+    × (d < n) × Path R d u v
 path-short {u = u} {v} n low hu s = cut n low n (λ w. true) (omega (arith, num-all n)) u v hu (anywhere s)
 
 -- walks in one pick are paths along its links
@@ -114,7 +122,8 @@ walk-short {n} {p} w hu s =
     let q = path-short n (λ u x l. link-to n p w u x l) hu (walk-path s) in
     (q .0, q .1, path-walk p (q .2))
 
-trip-any : (n g : ℕ) (L : Limit) → n ≤ suc g → (r : List (List ℕ)) → Recording n r → (u v : ℕ) → u < n → Trip L r u v → Trip (atMost g) r u v
+trip-any : (n g : ℕ) (L : Limit) → n ≤ suc g → (r : List (List ℕ)) → Recording n r → (u v : ℕ) → u < n → Trip L r u v
+    → Trip (atMost g) r u v
 trip-any n g L l [] k u v hu t = t
 trip-any n g L l (p ∷ ps) k u v hu t =
     let q = walk-short (k .0 .words) hu (t .1 .2) in
@@ -125,6 +134,7 @@ trip-any n g L l (p ∷ ps) k u v hu t =
 pub no-limit : (n : ℕ) → n ≤ 32 → (r : List (List ℕ)) → Recording n r → (i j u v : ℕ) → 1 ≤ i → i ≤ suc j → j ≤ length r → u < n
     → Journey r unlimited i j u v ↔ Journey r (atMost 31) i j u v
 no-limit n n32 r k i j u v a b c hu = (
-  λ f. journey-trip r (atMost 31) i j u v a b c .1 (trip-any n 31 unlimited n32 (window r i j) (rec-window n i j r k) u v hu (journey-trip r unlimited i j u v a b c .0 f)),
+  λ f. journey-trip r (atMost 31) i j u v a b c .1 (trip-any n 31 unlimited n32 (window r i j) (rec-window n i j r k) u v hu
+      (journey-trip r unlimited i j u v a b c .0 f)),
   λ f. record { picks = f .picks; crosses = f .crosses; hops = λ t. tt },
 )

@@ -43,10 +43,12 @@ unfolding Least
 least Q d zero = inr (λ l a b t. omega arith)
 least Q d (suc m) = go (least Q d m) (d (suc m) (omega arith))
   where
-    go : Least Q m ⊎ ((l : ℕ) → 1 ≤ l → l ≤ m → Q l → ⊥) → Dec (Q (suc m)) → Least Q (suc m) ⊎ ((l : ℕ) → 1 ≤ l → l ≤ suc m → Q l → ⊥)
+    go : Least Q m ⊎ ((l : ℕ) → 1 ≤ l → l ≤ m → Q l → ⊥) → Dec (Q (suc m)) → Least Q (suc m) ⊎
+        ((l : ℕ) → 1 ≤ l → l ≤ suc m → Q l → ⊥)
     go (inl r) c = let h : r .0 ≤ m = r .2 in inl (r .0, r .1, omega arith, r .3, r .4)
     go (inr none) (yes t) = inl (suc m, omega arith, omega arith, t, λ l a b s. none l a (omega arith) s)
-    go (inr none) (no g) = inr (λ l a b s. ⊎-elim (λ (e : l ≡ suc m). g (subst Q e s)) (λ (ne : l ≢ suc m). none l a (omega arith) s) (eq-or l (suc m)))
+    go (inr none) (no g) = inr (λ l a b s. ⊎-elim (λ (e : l ≡ suc m). g (subst Q e s)) (λ (ne : l ≢ suc m). none l a (omega arith) s)
+        (eq-or l (suc m)))
 
 -- the window of all picks is the only one of its length
 whole : (P : ℕ → ℕ → Type 0) (m : ℕ) → P 1 m → Every P m m
@@ -56,7 +58,8 @@ whole P m p i j a b c = let e : 1 ≡ i = omega arith in let f : m ≡ j = omega
 pub smallest-whole : (P : ℕ → ℕ → Type 0) (m : ℕ) → Decided P m → Upward P m → 1 ≤ m → HasSmallest P m ↔ P 1 m
 unfolding Least
 smallest-whole P m d up h = (
-  λ r. let s = r .1 in let l = s .low in let u = s .high in up 1 (r .0) 1 m (omega arith) (omega arith) l u (omega arith) (s .every 1 (r .0) (omega arith) u (omega arith)),
+  λ r. let s = r .1 in let l = s .low in let u = s .high in up 1 (r .0) 1 m (omega arith) (omega arith) l u (omega arith) (s .every 1 (r .0) (omega arith) u
+      (omega arith)),
   λ p. ⊎-elim (λ (r : Least (Every P m) m). (r .0, record { low = r .1; high = r .2; every = r .3; least = r .4 }))
       (λ (z : (l : ℕ) → 1 ≤ l → l ≤ m → Every P m l → ⊥). absurd (z m h (omega arith) (whole P m p)))
       (least (Every P m) (λ k a. dec-length P m k d a) m),
@@ -81,7 +84,13 @@ every-agree : {P Q : ℕ → ℕ → Type 0} {m k : ℕ} → Agree P Q m → 1 �
 every-agree e h f i j a b c = e i j a (omega arith) b .0 (f i j a b c)
 
 pub smallest-agree : {P Q : ℕ → ℕ → Type 0} {m k : ℕ} → Agree P Q m → Smallest P m k → Smallest Q m k
-smallest-agree e s = record { low = s .low; high = s .high; every = every-agree e (s .low) (s .every); least = λ l a b f. s .least l a b (every-agree (agree-back e) a f) }
+smallest-agree e s = record {
+  low = s .low;
+  high = s .high;
+  every = every-agree e (s .low)
+      (s .every);
+  least = λ l a b f. s .least l a b (every-agree (agree-back e) a f);
+}
 
 pub none-agree : {P Q : ℕ → ℕ → Type 0} {m : ℕ} → Agree P Q m → NoLength P m → NoLength Q m
 none-agree e f k a b g = f k a b (every-agree (agree-back e) a g)

@@ -9,3 +9,4 @@ pub mod Windows
 pub mod Lengths
 pub mod Monotone
 pub mod Refusals
+pub mod Causes

@@ -108,7 +108,8 @@ dec-every (suc n) Q d = go (dec-every n Q (λ i h. d i (omega arith))) (d n (ome
 
 -- where a number from i to j has a decided property, there is a first one, and a last one
 module _ (Q : ℕ → Type 0) (i j : ℕ) (dec : (x : ℕ) → i ≤ x → x ≤ j → Dec (Q x)) where
-  first-from : (c x a : ℕ) → i ≤ x → a ≡ x + c → a ≤ j → ((y : ℕ) → i ≤ y → y < x → Q y → ⊥) → Q a → (b : ℕ) × (i ≤ b) × (b ≤ a) × Q b × ((y : ℕ) → i ≤ y → y < b → Q y → ⊥)
+  first-from : (c x a : ℕ) → i ≤ x → a ≡ x + c → a ≤ j → ((y : ℕ) → i ≤ y → y < x → Q y → ⊥) → Q a → (b : ℕ)
+      × (i ≤ b) × (b ≤ a) × Q b × ((y : ℕ) → i ≤ y → y < b → Q y → ⊥)
   first-from zero x a p e h z q = (a, omega arith, le-refl a, q, λ y s t. z y s (omega arith))
   first-from (suc c) x a p e h z q = go (dec x p (omega arith)) (λ f. first-from c (suc x) a (omega arith) (omega arith) h f q)
     where
@@ -122,7 +123,8 @@ module _ (Q : ℕ → Type 0) (i j : ℕ) (dec : (x : ℕ) → i ≤ x → x ≤
   pub first-of : (a : ℕ) → i ≤ a → a ≤ j → Q a → (b : ℕ) × (i ≤ b) × (b ≤ a) × Q b × ((y : ℕ) → i ≤ y → y < b → Q y → ⊥)
   first-of a p h q = first-from (a - i) i a (le-refl i) (omega arith) h (λ y s t. absurd (omega arith)) q
 
-  last-from : (c x a : ℕ) → x ≤ j → x ≡ a + c → i ≤ a → ((y : ℕ) → x < y → y ≤ j → Q y → ⊥) → Q a → (b : ℕ) × (a ≤ b) × (b ≤ j) × Q b × ((y : ℕ) → b < y → y ≤ j → Q y → ⊥)
+  last-from : (c x a : ℕ) → x ≤ j → x ≡ a + c → i ≤ a → ((y : ℕ) → x < y → y ≤ j → Q y → ⊥) → Q a → (b : ℕ) × (a ≤ b)
+      × (b ≤ j) × Q b × ((y : ℕ) → b < y → y ≤ j → Q y → ⊥)
   last-from zero x a p e h z q = (a, le-refl a, omega arith, q, λ y s t. z y (omega arith) t)
   last-from (suc c) x a p e h z q = go (dec x (omega arith) p) (λ f. last-from c (x - 1) a (omega arith) (omega arith) h f q)
     where
@@ -135,3 +137,13 @@ module _ (Q : ℕ → Type 0) (i j : ℕ) (dec : (x : ℕ) → i ≤ x → x ≤
 
   pub last-of : (a : ℕ) → i ≤ a → a ≤ j → Q a → (b : ℕ) × (a ≤ b) × (b ≤ j) × Q b × ((y : ℕ) → b < y → y ≤ j → Q y → ⊥)
   last-of a h p q = last-from (j - a) j a (le-refl j) (omega arith) h (λ y s t. absurd (omega arith)) q
+
+-- ---- tests in a row, as code makes them
+
+-- the first holds, so the second decides
+pub and-step : {a b c : Bool} → a ≡ true → c ≡ b → c ≡ (a && b)
+and-step e g = rw (e, g)
+
+-- the first does not hold
+pub and-stop : {a : Bool} (b : Bool) → a ≡ false → false ≡ (a && b)
+and-stop b e = rw e

@@ -55,7 +55,8 @@ pub round-meeting : {r : List (List ℕ)} {L : Limit} {turn i j u v : ℕ} → R
 round-meeting c = record { a = c .a; d = c .d; from = c .arrival .from; upto = c .departure .upto; out = c .arrival .there; back = c .departure .there; in-time = c .in-time }
 
 -- and where there are any, there is an earliest arrival and a latest departure
-pub meeting-round : (r : List (List ℕ)) (n : ℕ) (L : Limit) (turn : ℕ) → JourneysDecided r n L → (i j u v : ℕ) → 1 ≤ i → j ≤ length r → u < n → v < n → u ≢ v
+pub meeting-round : (r : List (List ℕ)) (n : ℕ) (L : Limit) (turn : ℕ) → JourneysDecided r n L → (i j u v : ℕ) → 1 ≤ i → j ≤ length r
+    → u < n → v < n → u ≢ v
     → Meeting r L turn i j u v → RoundTrip r L turn i j u v
 meeting-round r n L turn dec i j u v hi hM hu hv ne c =
     let p = c .from in

@@ -19,7 +19,8 @@ low-ones n h =
 
 -- the word of the bits below n has them
 pub bit-low : (n v : ℕ) → v < n → T (bit (2 ^ n - 1) v)
-bit-low n v h = tr (sym (ap (λ (x : ℕ). bit x v) (sym (sub-zero (2 ^ n - 1))) ∙ bit-complement n 0 v (pow-pos n) h ∙ ap not (bit-high 0 v (pow-pos v)))) tt
+bit-low n v h = tr (sym (ap (λ (x : ℕ). bit x v) (sym (sub-zero (2 ^ n - 1))) ∙ bit-complement n 0 v (pow-pos n) h
+    ∙ ap not (bit-high 0 v (pow-pos v)))) tt
 
 -- a word has all bits below n
 pub all-in : (n y : ℕ) → ((v : ℕ) → v < n → T (bit y v)) → bitAnd y (2 ^ n - 1) ≡ 2 ^ n - 1

@@ -121,19 +121,33 @@ peel {r} {j} {i} (cross {u = u} {v = v} {w = w} {t = t} {ts = ts} a b l s) =
         }
 
     diff : i ≢ t → Peeled r j i u v (t ∷ ts)
-    diff ne = record { mid = u; num = 0; first = stop; later = t ∷ ts; rest = cross {i = suc i} {t = t} (omega arith) b l s; used = zero-le; less = λ x. le-refl (count x (t ∷ ts)) }
+    diff ne = record {
+      mid = u;
+      num = 0;
+      first = stop;
+      later = t ∷ ts;
+      rest = cross {i = suc i} {t = t}
+          (omega arith) b l s;
+      used = zero-le;
+      less = λ x. le-refl (count x (t ∷ ts));
+    }
 
 -- before its first pick a journey crosses nothing
 count-low : {r : List (List ℕ)} {j i u v : ℕ} {ts : List ℕ} (t : ℕ) → t < i → Crosses r j i u v ts → count t ts ≡ 0
 count-low t h stay = refl
 count-low t h (cross {t = x} {ts = ts} a b l s) = count-skip t x ts (omega arith) ∙ count-low t (omega arith) s
 
-crosses-span : (r : List (List ℕ)) (L : Limit) (j k i u v : ℕ) (ts : List ℕ) → suc j ≡ i + k → Crosses r j i u v ts → ((t : ℕ) → Within L (count t ts)) → Span r L i k u v
+crosses-span : (r : List (List ℕ)) (L : Limit) (j k i u v : ℕ) (ts : List ℕ) → suc j
+    ≡ i + k → Crosses r j i u v ts → ((t : ℕ) → Within L (count t ts)) → Span r L i k u v
 crosses-span r L j zero i u v ts e stay m = refl
 crosses-span r L j zero i u v ts e (cross a b l s) m = absurd (omega arith)
 crosses-span r L j (suc k) i u v ts e s m =
-    let q = peel s in
-    (q .mid, (q .num, within-less L (q .used) (m i), q .first), crosses-span r L j k (suc i) (q .mid) v (q .later) (omega arith) (q .rest) (λ t. within-less L (q .less t) (m t)))
+    let q = peel s in (
+      q .mid,
+      (q .num, within-less L (q .used) (m i), q .first),
+      crosses-span r L j k (suc i) (q .mid) v (q .later) (omega arith) (q .rest)
+          (λ t. within-less L (q .less t) (m t)),
+    )
 
 -- a walk in pick i, put before a journey that goes on later
 record Led (r : List (List ℕ)) (j i u v c : ℕ) (ts : List ℕ) : Type 0 where
@@ -166,7 +180,8 @@ span-journey r L j (suc k) i u v e s =
     record {
       picks = q .all;
       crosses = q .way;
-      hops = λ t. ⊎-elim (λ (x : t ≡ i). subst (λ (y : ℕ). Within L (count y (q .all))) (sym x) (within-less L (omega (arith, q .here, count-low i (le-refl (suc i)) (f .crosses))) (s .1 .1)))
+      hops = λ t. ⊎-elim (λ (x : t ≡ i). subst (λ (y : ℕ). Within L (count y (q .all))) (sym x)
+          (within-less L (omega (arith, q .here, count-low i (le-refl (suc i)) (f .crosses))) (s .1 .1)))
           (λ (x : t ≢ i). within-less L (omega (arith, q .there t x)) (f .hops t)) (eq-or t i);
     }
 
@@ -181,7 +196,8 @@ trip-span r L (suc k) i u v l s =
     (q .0, q .1, trip-span r L k (suc i) (q .0) v (omega arith) (q .2))
 
 -- a journey in the window of the picks i to j is a trip over them
-pub journey-trip : (r : List (List ℕ)) (L : Limit) (i j u v : ℕ) → 1 ≤ i → i ≤ suc j → j ≤ length r → Journey r L i j u v ↔ Trip L (window r i j) u v
+pub journey-trip : (r : List (List ℕ)) (L : Limit) (i j u v : ℕ) → 1 ≤ i → i ≤ suc j → j ≤ length r
+    → Journey r L i j u v ↔ Trip L (window r i j) u v
 journey-trip r L zero j u v a b c = absurd (omega arith)
 journey-trip r L (suc i) j u v a b c =
     let e : j ≡ i + (j - i) = omega arith in
@@ -209,14 +225,20 @@ pub journey-split : (r : List (List ℕ)) (L : Limit) (i k j u v : ℕ) → 1 �
 journey-split r L i k j u v a b c d =
     let whole = journey-trip r L i j u v a (omega arith) d in
     let seam = windows-join r i k j a b c in (
-      λ f. let t = trip-split L (window r i k) (window r (suc k) j) u v (rw (sym seam) at (whole .0 f)) in
-          (t .0, journey-trip r L i k u (t .0) a (omega arith) (omega arith) .1 (t .1), journey-trip r L (suc k) j (t .0) v (omega arith) (omega arith) d .1 (t .2)),
+      λ f. let t = trip-split L (window r i k) (window r (suc k) j) u v (rw (sym seam) at (whole .0 f)) in (
+        t .0,
+        journey-trip r L i k u (t .0) a (omega arith) (omega arith) .1 (t .1),
+        journey-trip r L (suc k) j (t .0) v (omega arith) (omega arith) d .1
+            (t .2),
+      ),
       λ p. whole .1 (rw (sym seam) (trip-join L (window r i k) (window r (suc k) j) u (p .0) v
-          (journey-trip r L i k u (p .0) a (omega arith) (omega arith) .0 (p .1)) (journey-trip r L (suc k) j (p .0) v (omega arith) (omega arith) d .0 (p .2)))),
+          (journey-trip r L i k u (p .0) a (omega arith) (omega arith) .0 (p .1)) (journey-trip r L (suc k) j (p .0) v (omega arith) (omega arith) d .0
+          (p .2)))),
     )
 
 -- a journey ends at a board below n
-pub journey-to : (n : ℕ) (L : Limit) (r : List (List ℕ)) → Recording n r → (i j u v : ℕ) → 1 ≤ i → i ≤ suc j → j ≤ length r → u < n → Journey r L i j u v → v < n
+pub journey-to : (n : ℕ) (L : Limit) (r : List (List ℕ)) → Recording n r → (i j u v : ℕ) → 1 ≤ i → i ≤ suc j → j ≤ length r → u < n
+    → Journey r L i j u v → v < n
 journey-to n L r k i j u v a b c hu f = trip-to n L (window r i j) (rec-window n i j r k) u v hu (journey-trip r L i j u v a b c .0 f)
 
 -- a journey in a window is one in any window around it

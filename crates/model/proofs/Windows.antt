@@ -32,7 +32,8 @@ windows-join r (suc i) k j a b c =
 -- the window of one pick
 pub window-one : (r : List (List ℕ)) (i : ℕ) → 1 ≤ i → i ≤ length r → window r i i ≡ pickAt r i ∷ []
 window-one r zero a b = absurd (omega arith)
-window-one r (suc i) a b = let e : suc i ≡ i + 1 = omega arith in ap (λ (x : ℕ). window r (suc i) x) e ∙ window-at r i 1 ∙ take-next r i 0 (omega arith)
+window-one r (suc i) a b = let e : suc i ≡ i + 1 = omega arith in ap (λ (x : ℕ). window r (suc i) x) e ∙ window-at r i 1
+    ∙ take-next r i 0 (omega arith)
 
 -- the window of all picks
 pub window-all : (r : List (List ℕ)) → window r 1 (length r) ≡ r

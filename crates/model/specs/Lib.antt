@@ -4,3 +4,4 @@ pub mod Journey
 pub mod Measures
 pub mod Length
 pub mod Refusals
+pub mod Causes

@@ -1,7 +1,8 @@
 -- 01's number of each cause.
 use Prim.Native.Nat.{ℕ}
 use Rattle.model.specs.declared.Refusal.{Refusal}
-use Rattle.model.specs.declared.Refusal.the-variants.{Boards, Measure, Picks, Room, Forbidden, Unlisted, Full, NoPick, NoLength, Shape, Command, Stopped, Operands, Unchanged, Trailing, BadPlace}
+use Rattle.model.specs.declared.Refusal.the-variants.{Boards, Measure, Picks, Room, Forbidden, Unlisted, Full, NoPick, NoLength, Shape, Command}
+use Rattle.model.specs.declared.Refusal.the-variants.{Stopped, Operands, Unchanged, Trailing, BadPlace}
 
 abbrev pub number : Refusal → ℕ
 number Boards = 1

@@ -1,5 +1,6 @@
 // Units. A pick number is never used as a board number, and compositions and tests are counted apart.
 ghost use mathlib.Core.Path.{_≡_};
+ghost use Rattle.model.specs.Causes.{between};
 ghost use Rattle.model.specs.Refusals.{number};
 
 // A board's number, from 0 on.
@@ -73,4 +74,14 @@ pub fn number_of(cause: Refusal) -> usize
         Refusal::Trailing => 15,
         Refusal::BadPlace => 16,
     }
+}
+
+// Whether x is low to high: each range that a cause asks for is one call of it.
+pub fn is_between(low: usize, x: usize, high: usize) -> bool
+    ensures { λ r. ⌜ r ≡ between low x high ⌝ }
+{
+    if x < low {
+        return false;
+    }
+    x <= high
 }

@@ -1,6 +1,6 @@
 -- Every number that the calls answer fits a word of 32 bits, so none is cut short on its way to C. Assumes nothing.
 use mathlib.Core.Path.{_≡_, refl, sym, ap, ap₂, _∙_, subst}
-use mathlib.Core.Bool.{Bool, true, false, _&&_, not}
+use mathlib.Core.Bool.{Bool, true, false, _&&_, not, cond}
 use mathlib.Core.Option.{none, some}
 use mathlib.Core.List.{List}
 use Prim.Native.Nat.{ℕ, _+_, _-_, _/_, _≤_, _<_, _^_}
@@ -8,20 +8,21 @@ use native.Mathlib.Nat.{le-refl}
 use native.Mathlib.Omega.{arith}
 use lib.Dec.{eqb, eqb→eq, ltb, lit<}
 use lib.ListN.{length}
+use Rattle.model.specs.Causes.{firstOf}
 use Rattle.model.specs.declared.Refusal.{Refusal}
 use Rattle.model.specs.Refusals.{number}
 use Rattle.model.proofs.Refusals.{number-some}
-use Rattle.measures.specs.Kit.{either}
+use Rattle.place.specs.declared.Settings.{Settings}
 use Rattle.place.specs.declared.Place.{Place}
-use Rattle.place.specs.Places.{fresh, nowhere, charged, soundPlace, Sound}
+use Rattle.place.specs.Places.{fresh, nowhere, charged, soundPlace, Sound, mostCounted}
 use Rattle.place.proofs.Laws.{sound-says}
 use Rattle.verdicts.specs.Verdicts.{openVerdict, pickVerdict, wholeVerdict}
 use Rattle.verdicts.specs.Fit.{Runs}
 use Rattle.verdicts.proofs.Verdicts.{open-sound, pick-sound, whole-sound}
 use Rattle.steps.specs.Walk.{State, reported}
 use Rattle.steps.proofs.Ready.{Stepped, stepped-grown, sound-ready}
-use Rattle.steps.proofs.Frames.{either-ind}
-use Rattle.calls.specs.Answers.{Handed, handed, outcome}
+use Rattle.steps.proofs.Frames.{cond-ind}
+use Rattle.calls.specs.Answers.{Handed, handed, outcome, answerBy}
 use Rattle.calls.specs.Calls.{openSays, pickSays, pickLeaves, reportSays, lengthSays, unions, wholeStart, wholeAfter, wholeReport, wholeSays}
 use Rattle.calls.specs.Fit.{Starts}
 use Rattle.calls.proofs.Taken.{taken-state, refused-state}
@@ -64,13 +65,13 @@ nowhere-narrow = record {
 pub open-narrow : (n measure limit : ℕ) (footprint a : List ℕ) → Narrow (openSays n measure limit footprint a .place)
 unfolding openSays
 open-narrow n measure limit footprint a =
-    either-ind Narrow (eqb (openVerdict n measure limit footprint a) 0) (fresh measure n limit) nowhere
+    cond-ind Narrow (eqb (openVerdict n measure limit footprint a) 0) (fresh measure n limit) nowhere
     (λ t. let o = open-sound n measure limit footprint a (eqb→eq _ _ t) in fresh-narrow n measure limit (o .few) (o .measure-high) (o .cap))
     (λ t. nowhere-narrow)
 
 -- ---- pick
 
-stepped-narrow : {p q : Place} → Sound p → p .taken .0 < p .limit → Stepped p q → Narrow q
+stepped-narrow : {p q : Place} → Sound p → p .window .taken .0 < p .settings .limit → Stepped p q → Narrow q
 stepped-narrow s h t =
     let l = s .limit-high in
     let b = s .boards-high in
@@ -83,9 +84,9 @@ stepped-narrow s h t =
     let x = t .comps in
     let y = t .tests in
     record {
-      boards = subst (λ (z : ℕ). z < 2 ^ 32) (sym (t .boards)) (small (omega arith));
-      measure = subst (λ (z : ℕ). z < 2 ^ 32) (sym (t .measure)) (small (omega arith));
-      limit = subst (λ (z : ℕ). z < 2 ^ 32) (sym (t .limit)) (small (omega arith));
+      boards = subst (λ (z : Settings). z .boards < 2 ^ 32) (sym (t .settings)) (small (omega arith));
+      measure = subst (λ (z : Settings). z .measure < 2 ^ 32) (sym (t .settings)) (small (omega arith));
+      limit = subst (λ (z : Settings). z .limit < 2 ^ 32) (sym (t .settings)) (small (omega arith));
       taken = small (omega arith);
       start = small (omega arith);
       boundary = small (omega arith);
@@ -102,11 +103,13 @@ pick-narrow p a w e =
 -- ---- length
 
 -- a length is at most one more than the picks
-reported-small : (p : Place) → p .taken .0 ≤ 4096 → p .compositions .0 ≤ 60000000 → p .tests .0 ≤ 60000000 → NarrowAnswer (reportSays (reported p) p)
+reported-small : (p : Place) → p .window .taken .0 ≤ 4096 → p .counts .compositions .0 ≤ mostCounted → p .counts .tests .0 ≤ mostCounted
+    → NarrowAnswer (reportSays (reported p) p)
 unfolding reported
-reported-small p h c t = by (p .passed) (not (eqb (p .measure) 1) && ltb 1 (p .start .0))
+reported-small p h c t = by (p .marks .passed) (not (eqb (p .settings .measure) 1) && ltb 1 (p .window .start .0))
   where
-    by : (x y : Bool) → NarrowAnswer (reportSays (either x (some (p .taken .0 + 1 - p .start .0)) (either y (some (p .taken .0 + 2 - p .start .0)) none)) p)
+    by : (x y : Bool) → NarrowAnswer (reportSays (cond x (some (p .window .taken .0 + 1 - p .window .start .0))
+        (cond y (some (p .window .taken .0 + 2 - p .window .start .0)) none)) p)
     by true y = record { length = small (omega arith); compositions = small (omega arith); tests = small (omega arith) }
     by false true = record { length = small (omega arith); compositions = small (omega arith); tests = small (omega arith) }
     by false false = record { length = lit< tt; compositions = small (omega arith); tests = small (omega arith) }
@@ -115,19 +118,22 @@ no-answer : (c : ℕ) → NarrowAnswer (outcome c 0 0 0)
 no-answer c = record { length = lit< tt; compositions = lit< tt; tests = lit< tt }
 
 pub length-narrow : (p : Place) → NarrowAnswer (lengthSays p)
-unfolding lengthSays
-length-narrow p = by (soundPlace p) refl
+unfolding lengthSays firstOf
+length-narrow p = by (soundPlace p) (eqb (p .window .taken .0) 0) refl
   where
-    by : (x : Bool) → soundPlace p ≡ x → NarrowAnswer (either (not x) (outcome 16 0 0 0) (either (eqb (p .taken .0) 0) (outcome 8 0 0 0) (reportSays (reported p) p)))
-    by false e = no-answer 16
-    by true e =
+    cause : Bool → Bool → ℕ
+    cause x y = cond (not x) 16 (cond y 8 0)
+
+    by : (x y : Bool) → soundPlace p ≡ x → NarrowAnswer (answerBy (cause x y) (reportSays (reported p) p))
+    by false y e = no-answer 16
+    by true true e = no-answer 8
+    by true false e =
         let s = sound-says p e in
         let m = s .taken-high in
         let l = s .limit-high in
         let c = s .compositions-high in
         let t = s .tests-high in
-        either-ind NarrowAnswer (eqb (p .taken .0) 0) (outcome 8 0 0 0) (reportSays (reported p) p) (λ z. no-answer 8)
-        (λ z. reported-small p (omega arith) (omega arith) (omega arith))
+        reported-small p (omega arith) (omega arith) (omega arith)
 
 -- ---- whole run
 
@@ -155,23 +161,26 @@ module _ (n measure m : ℕ) (w a : List ℕ) (r : Runs n measure m w a) where
 pub whole-narrow : (n measure : ℕ) (w a : List ℕ) → NarrowAnswer (wholeSays n measure w a)
 unfolding wholeSays
 whole-narrow n measure w a =
-    either-ind NarrowAnswer (eqb (wholeVerdict n measure w a) 0) (wholeReport n measure (length w / n) w a) (outcome (wholeVerdict n measure w a) 0 0 0)
+    cond-ind NarrowAnswer (eqb (wholeVerdict n measure w a) 0) (wholeReport n measure (length w / n) w a) (outcome (wholeVerdict n measure w a) 0 0 0)
     (λ t. run-narrow n measure (length w / n) w a (whole-sound n measure w a (eqb→eq _ _ t)))
     (λ t. no-answer _)
 
 -- ---- answers as words, from what a call answered
 
 -- the flags are flags: the answer is that of the call, on the place that the words stand for
-pub picked-is : (p : PlaceWords) (a w : List ℕ) {q : Place} {r : HandedWords} → flags p ≡ true → q ≡ placeOf p → r ≡ handedWords (pickSays q a w) → r ≡ pickAnswers p a w
+pub picked-is : (p : PlaceWords) (a w : List ℕ) {q : Place} {r : HandedWords} → flags p ≡ true → q ≡ placeOf p
+    → r ≡ handedWords (pickSays q a w) → r ≡ pickAnswers p a w
 unfolding pickAnswers
 picked-is p a w e f g = rw e (g ∙ ap (λ (x : Place). handedWords (pickSays x a w)) f)
 
-pub kept-is : (p : PlaceWords) (a w : List ℕ) {q : Place} {b : List ℕ} → flags p ≡ true → q ≡ placeOf p → b ≡ pickLeaves q a w → b ≡ pickKeeps p a w
+pub kept-is : (p : PlaceWords) (a w : List ℕ) {q : Place} {b : List ℕ} → flags p ≡ true → q ≡ placeOf p → b ≡ pickLeaves q a w
+    → b ≡ pickKeeps p a w
 unfolding pickKeeps
 kept-is p a w e f g = rw e (g ∙ ap (λ (x : Place). pickLeaves x a w) f)
 
 -- a refused pick: the ten words are handed back
-pub refused-is : (p : PlaceWords) (a w : List ℕ) {x : ℕ} (c : Refusal) {q o : Place} → flags p ≡ true → q ≡ placeOf p → x ≡ number c → handed (number c) o ≡ pickSays q a w
+pub refused-is : (p : PlaceWords) (a w : List ℕ) {x : ℕ} (c : Refusal) {q o : Place} → flags p ≡ true → q ≡ placeOf p → x ≡ number c
+    → handed (number c) o ≡ pickSays q a w
     → handedAs x p ≡ pickAnswers p a w
 refused-is p a w c {q} f d e g =
     let v : number c ≡ pickVerdict q a w = ap (λ (h : Handed). h .refusal) g in

@@ -10,26 +10,23 @@ use Rattle.place.specs.declared.Place.{Place}
 use Rattle.calls.specs.Calls.{lengthSays, wholeAfter, wholeSays}
 use Rattle.law.specs.Correct.{Passes}
 use Rattle.law.specs.Claim2.{listCost}
-use Rattle.numbers.specs.Walk.{Numbers, at, walk, answer}
+use Rattle.numbers.specs.Walk.{WalkNumbers, numbersAt, walk, answer}
+use Rattle.place.specs.Places.{settingsOf}
 
 -- the place of these numbers, for n boards, a measure and a limit
-abbrev pub placed : ℕ → ℕ → ℕ → Numbers → Place
+abbrev pub placed : ℕ → ℕ → ℕ → WalkNumbers → Place
 placed n measure limit x = record {
-  boards = n;
-  measure = measure;
-  limit = limit;
-  taken = record { 0 = x .m };
-  start = record { 0 = x .s };
-  boundary = record { 0 = x .b };
-  failed = x .failed;
-  passed = x .passed;
-  compositions = record { 0 = x .compositions };
-  tests = record { 0 = x .tests };
+  settings = settingsOf measure n limit;
+  window = record { taken = record { 0 = x .m }; start = record { 0 = x .s }; boundary = record { 0 = x .b } };
+  marks = record { failed = x .failed; passed = x .passed };
+  counts = record { compositions = record { 0 = x .compositions }; tests = record { 0 = x .tests } };
 }
 
 -- and the numbers of a place
-abbrev pub numbersOf : Place → Numbers
-numbersOf p = at (p .taken .0) (p .start .0) (p .boundary .0) (p .failed) (p .passed) (p .compositions .0) (p .tests .0)
+abbrev pub numbersOf : Place → WalkNumbers
+numbersOf p =
+    numbersAt (p .window .taken .0) (p .window .start .0) (p .window .boundary .0) (p .marks .failed) (p .marks .passed) (p .counts .compositions .0)
+    (p .counts .tests .0)
 
 -- `pass` answers the test of each window of r as the meaning does
 abbrev pub Tells : (ℕ → ℕ → Bool) → ℕ → ℕ → List ℕ → List (List ℕ) → Type 0
@@ -47,6 +44,6 @@ pub record RunMoved (n measure m : ℕ) (w a : List ℕ) (pass : ℕ → ℕ →
   pub answered : wholeSays n measure w a ≡ answer measure (walk measure pass (listCost measure m) m)
 
 -- something answers the tests as the meaning does
-pub record Decided (measure n : ℕ) (footprint : List ℕ) (r : List (List ℕ)) : Type 0 where
+pub record TestsDecided (measure n : ℕ) (footprint : List ℕ) (r : List (List ℕ)) : Type 0 where
   pub pass : ℕ → ℕ → Bool
   pub tells : Tells pass measure n footprint r

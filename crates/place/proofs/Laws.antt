@@ -6,18 +6,11 @@ use mathlib.Core.Path.{_≡_, refl, sym, subst}
 use lib.Dec.{T, eqb, leb}
 use native.Mathlib.Omega.{arith}
 use borrow.Author.Tests.{leb-true, leb-false, le-leb, lt-leb, ne-eqb, not-true}
+use Rattle.model.specs.Causes.{between}
 use Rattle.place.specs.declared.Place.{Place}
-use Rattle.place.specs.Places.{fresh, nowhere, between, inRange, soundWindow, soundStart, soundMarks, soundCounts, soundPlace, Sound}
+use Rattle.place.specs.Places.{fresh, nowhere, inRange, soundWindow, soundStart, soundMarks, soundCounts, soundPlace, Sound}
 
 -- ---- tests in a row
-
--- the first holds, so the second decides
-pub and-step : {a b c : Bool} → a ≡ true → c ≡ b → c ≡ (a && b)
-and-step e g = rw (e, g)
-
--- the first does not hold
-pub and-stop : {a : Bool} (b : Bool) → a ≡ false → false ≡ (a && b)
-and-stop b e = rw e
 
 pub and-both : {a b : Bool} → a ≡ true → b ≡ true → (a && b) ≡ true
 and-both e g = rw (e, g)
@@ -55,54 +48,54 @@ between-high : (low x high : ℕ) → between low x high ≡ true → x ≤ high
 unfolding between
 between-high low x high e = leb-true x high (and-right (leb low x) _ e)
 
-boards-between : (p : Place) → inRange p ≡ true → between 2 (p .boards) 32 ≡ true
+boards-between : (p : Place) → inRange p ≡ true → between 2 (p .settings .boards) 32 ≡ true
 unfolding inRange
 boards-between p e = and-left _ _ e
 
-measure-between : (p : Place) → inRange p ≡ true → between 1 (p .measure) 4 ≡ true
+measure-between : (p : Place) → inRange p ≡ true → between 1 (p .settings .measure) 4 ≡ true
 unfolding inRange
-measure-between p e = and-left _ _ (and-right (between 2 (p .boards) 32) _ e)
+measure-between p e = and-left _ _ (and-right (between 2 (p .settings .boards) 32) _ e)
 
-limit-between : (p : Place) → inRange p ≡ true → between 1 (p .limit) 4096 ≡ true
+limit-between : (p : Place) → inRange p ≡ true → between 1 (p .settings .limit) 4096 ≡ true
 unfolding inRange
-limit-between p e = and-right (between 1 (p .measure) 4) _ (and-right (between 2 (p .boards) 32) _ e)
+limit-between p e = and-right (between 1 (p .settings .measure) 4) _ (and-right (between 2 (p .settings .boards) 32) _ e)
 
-taken-within : (p : Place) → soundWindow p ≡ true → p .taken .0 ≤ p .limit
+taken-within : (p : Place) → soundWindow p ≡ true → p .window .taken .0 ≤ p .settings .limit
 unfolding soundWindow
 taken-within p e = leb-true _ _ (and-left _ _ e)
 
-boundary-within : (p : Place) → soundWindow p ≡ true → p .boundary .0 ≤ p .taken .0
+boundary-within : (p : Place) → soundWindow p ≡ true → p .window .boundary .0 ≤ p .window .taken .0
 unfolding soundWindow
-boundary-within p e = leb-true _ _ (and-left _ _ (and-right (leb (p .taken .0) (p .limit)) _ e))
+boundary-within p e = leb-true _ _ (and-left _ _ (and-right (leb (p .window .taken .0) (p .settings .limit)) _ e))
 
-start-between : (p : Place) → soundWindow p ≡ true → between 1 (p .start .0) (p .boundary .0 + 1) ≡ true
+start-between : (p : Place) → soundWindow p ≡ true → between 1 (p .window .start .0) (p .window .boundary .0 + 1) ≡ true
 unfolding soundWindow
-start-between p e = and-right (leb (p .boundary .0) (p .taken .0)) _ (and-right (leb (p .taken .0) (p .limit)) _ e)
+start-between p e = and-right (leb (p .window .boundary .0) (p .window .taken .0)) _ (and-right (leb (p .window .taken .0) (p .settings .limit)) _ e)
 
-start-within : (p : Place) → soundStart p ≡ true → 1 ≤ p .taken .0 → p .start .0 ≤ p .taken .0
+start-within : (p : Place) → soundStart p ≡ true → 1 ≤ p .window .taken .0 → p .window .start .0 ≤ p .window .taken .0
 unfolding soundStart
-start-within p e h = leb-true _ _ (or-right (eqb (p .taken .0) 0) _ (ne-eqb (p .taken .0) 0 (λ z. omega (arith, h, z))) e)
+start-within p e h = leb-true _ _ (or-right (eqb (p .window .taken .0) 0) _ (ne-eqb (p .window .taken .0) 0 (λ z. omega (arith, h, z))) e)
 
-none-marked : (p : Place) → soundMarks p ≡ true → p .taken .0 ≡ 0 → (not (p .failed) && not (p .passed)) ≡ true
+none-marked : (p : Place) → soundMarks p ≡ true → p .window .taken .0 ≡ 0 → (not (p .marks .failed) && not (p .marks .passed)) ≡ true
 unfolding soundMarks
-none-marked p e z = or-right (leb 1 (p .taken .0)) _ (lt-leb 1 (p .taken .0) (omega (arith, z))) e
+none-marked p e z = or-right (leb 1 (p .window .taken .0)) _ (lt-leb 1 (p .window .taken .0) (omega (arith, z))) e
 
-compositions-within : (p : Place) → soundCounts p ≡ true → p .compositions .0 ≤ 4 * p .taken .0
+compositions-within : (p : Place) → soundCounts p ≡ true → p .counts .compositions .0 ≤ 4 * p .window .taken .0
 unfolding soundCounts
 compositions-within p e = leb-true _ _ (and-left _ _ e)
 
-tests-within : (p : Place) → soundCounts p ≡ true → p .tests .0 ≤ 2 * p .taken .0
+tests-within : (p : Place) → soundCounts p ≡ true → p .counts .tests .0 ≤ 2 * p .window .taken .0
 unfolding soundCounts
-tests-within p e = leb-true _ _ (and-right (leb (p .compositions .0) (4 * p .taken .0)) _ e)
+tests-within p e = leb-true _ _ (and-right (leb (p .counts .compositions .0) (4 * p .window .taken .0)) _ e)
 
 -- what `is_sound` needs on its way
-pub limit-within : (p : Place) → inRange p ≡ true → p .limit ≤ 4096
-limit-within p e = between-high 1 (p .limit) 4096 (limit-between p e)
+pub limit-within : (p : Place) → inRange p ≡ true → p .settings .limit ≤ 4096
+limit-within p e = between-high 1 (p .settings .limit) 4096 (limit-between p e)
 
-pub taken-low : (p : Place) → inRange p ≡ true → soundWindow p ≡ true → p .taken .0 ≤ 4096
+pub taken-low : (p : Place) → inRange p ≡ true → soundWindow p ≡ true → p .window .taken .0 ≤ 4096
 taken-low p e g =
-    let a : p .limit ≤ 4096 = limit-within p e
-    in let b : p .taken .0 ≤ p .limit = taken-within p g
+    let a : p .settings .limit ≤ 4096 = limit-within p e
+    in let b : p .window .taken .0 ≤ p .settings .limit = taken-within p g
     in omega (arith, a, b)
 
 says : (p : Place) → inRange p ≡ true → soundWindow p ≡ true → soundStart p ≡ true → soundMarks p ≡ true → soundCounts p ≡ true → Sound p
@@ -115,11 +108,11 @@ says p r w s k c = record {
   limit-high = limit-within p r;
   taken-high = taken-within p w;
   boundary-high = boundary-within p w;
-  start-low = between-low 1 _ (p .boundary .0 + 1) (start-between p w);
-  start-high = between-high 1 _ (p .boundary .0 + 1) (start-between p w);
+  start-low = between-low 1 _ (p .window .boundary .0 + 1) (start-between p w);
+  start-high = between-high 1 _ (p .window .boundary .0 + 1) (start-between p w);
   start-taken = start-within p s;
   none-failed = λ z. not-true _ (and-left _ _ (none-marked p k z));
-  none-passed = λ z. not-true _ (and-right (not (p .failed)) _ (none-marked p k z));
+  none-passed = λ z. not-true _ (and-right (not (p .marks .failed)) _ (none-marked p k z));
   compositions-high = compositions-within p c;
   tests-high = tests-within p c;
 }
@@ -169,13 +162,13 @@ none-taken m f =
 
 start-in : (p : Place) → Sound p → soundStart p ≡ true
 unfolding soundStart
-start-in p h = or-in (eqb (p .taken .0) 0) _ (λ f. le-leb _ _ (h .start-taken (some-taken (p .taken .0) f)))
+start-in p h = or-in (eqb (p .window .taken .0) 0) _ (λ f. le-leb _ _ (h .start-taken (some-taken (p .window .taken .0) f)))
 
 marks-in : (p : Place) → Sound p → soundMarks p ≡ true
 unfolding soundMarks
 marks-in p h =
-    or-in (leb 1 (p .taken .0)) _
-    (λ f. and-both (not-in (h .none-failed (none-taken (p .taken .0) f))) (not-in (h .none-passed (none-taken (p .taken .0) f))))
+    or-in (leb 1 (p .window .taken .0)) _
+    (λ f. and-both (not-in (h .none-failed (none-taken (p .window .taken .0) f))) (not-in (h .none-passed (none-taken (p .window .taken .0) f))))
 
 counts-in : (p : Place) → Sound p → soundCounts p ≡ true
 unfolding soundCounts
@@ -187,7 +180,8 @@ sound-in p h = and-both (range-in p h) (and-both (window-in p h) (and-both (star
 
 -- ---- the places that an opening hands back
 
-pub fresh-sound : (measure n limit : ℕ) → 2 ≤ n → n ≤ 32 → 1 ≤ measure → measure ≤ 4 → 1 ≤ limit → limit ≤ 4096 → Sound (fresh measure n limit)
+pub fresh-sound : (measure n limit : ℕ) → 2 ≤ n → n ≤ 32 → 1 ≤ measure → measure ≤ 4 → 1 ≤ limit → limit ≤ 4096
+    → Sound (fresh measure n limit)
 unfolding fresh
 fresh-sound measure n limit nl nh ml mh ll lh = record {
   boards-low = nl;

@@ -1,112 +1,155 @@
 // The place of a walk: the record that every call is handed and hands back, the steps it takes, and cause 16.
 ghost use mathlib.Core.Path.{_≡_};
 ghost use Prim.Native.Nat.{_≤_};
-ghost use Rattle.place.specs.Places.{fresh, pickTaken, picksTaken, startMoved, turned, charged, tested, between, inRange, soundWindow, soundStart, soundMarks, soundCounts, soundPlace};
+ghost use Rattle.place.specs.Places.{fresh, mostCounted, picksTaken, startMoved, boundaryMoved, charged, marked, tested, inRange, soundWindow, soundStart, soundMarks, soundCounts, soundPlace};
 use model::Compositions;
 use model::Pick;
 use model::Tests;
 
-pub struct Place {
+// What no step touches.
+pub struct Settings {
     // n, the number of boards
     pub boards: usize,
     // measure, 1 to 4
     pub measure: usize,
     // limit, the most picks
     pub limit: usize,
+}
+
+// Where the walk stands.
+pub struct Window {
     // picks taken m
     pub taken: Pick,
     // window start s, first 1
     pub start: Pick,
     // boundary b, first 0
     pub boundary: Pick,
+}
+
+// What the tests said.
+pub struct TestMarks {
     // whether any test has failed, first no
     pub failed: bool,
     // whether the last test passed, first no
     pub passed: bool,
-    // the two counts, charged as the steps are made
+}
+
+// The two counts, charged as the steps are made.
+pub struct Counts {
     pub compositions: Compositions,
     pub tests: Tests,
 }
 
-// Whether x is low to high: each range of cause 16 is one call of it.
-pub fn is_between(low: usize, x: usize, high: usize) -> bool
-    ensures { λ r. ⌜ r ≡ between low x high ⌝ }
-{
-    if x < low {
-        return false;
+// In groups that change together: each step names its own, and the others stay.
+pub struct Place {
+    pub settings: Settings,
+    pub window: Window,
+    pub marks: TestMarks,
+    pub counts: Counts,
+}
+
+impl Window {
+    // Before pick 1.
+    pub const FIRST: Window = Window {
+        taken: Pick(0),
+        start: Pick(1),
+        boundary: Pick(0),
+    };
+
+    // Zeros.
+    pub const NOWHERE: Window = Window {
+        taken: Pick(0),
+        start: Pick(0),
+        boundary: Pick(0),
+    };
+}
+
+impl TestMarks {
+    // No test made.
+    pub const NONE: TestMarks = TestMarks {
+        failed: false,
+        passed: false,
+    };
+
+    // The marks after one test more.
+    fn with(mut self, passed: bool) -> TestMarks
+        ensures { λ r. ⌜ r ≡ marked self passed ⌝ }
+    {
+        self.passed = passed;
+        if !passed {
+            self.failed = true;
+        }
+        self
     }
-    x <= high
+}
+
+impl Counts {
+    // Nothing charged.
+    pub const NONE: Counts = Counts {
+        compositions: Compositions(0),
+        tests: Tests(0),
+    };
 }
 
 impl Place {
     // The fresh value of measure 1. Boards and limit are filled in at opening.
     pub const COMMON: Place = Place {
-        boards: 0,
-        measure: 1,
-        limit: 0,
-        taken: Pick(0),
-        start: Pick(1),
-        boundary: Pick(0),
-        failed: false,
-        passed: false,
-        compositions: Compositions(0),
-        tests: Tests(0),
+        settings: Settings {
+            boards: 0,
+            measure: 1,
+            limit: 0,
+        },
+        window: Window::FIRST,
+        marks: TestMarks::NONE,
+        counts: Counts::NONE,
     };
 
     // The fresh value of measure 2, which 01 calls return.
     pub const FOOTPRINT: Place = Place {
-        boards: 0,
-        measure: 2,
-        limit: 0,
-        taken: Pick(0),
-        start: Pick(1),
-        boundary: Pick(0),
-        failed: false,
-        passed: false,
-        compositions: Compositions(0),
-        tests: Tests(0),
+        settings: Settings {
+            boards: 0,
+            measure: 2,
+            limit: 0,
+        },
+        window: Window::FIRST,
+        marks: TestMarks::NONE,
+        counts: Counts::NONE,
     };
 
     // The fresh value of measure 3.
     pub const REACH: Place = Place {
-        boards: 0,
-        measure: 3,
-        limit: 0,
-        taken: Pick(0),
-        start: Pick(1),
-        boundary: Pick(0),
-        failed: false,
-        passed: false,
-        compositions: Compositions(0),
-        tests: Tests(0),
+        settings: Settings {
+            boards: 0,
+            measure: 3,
+            limit: 0,
+        },
+        window: Window::FIRST,
+        marks: TestMarks::NONE,
+        counts: Counts::NONE,
     };
 
     // The fresh value of measure 4.
     pub const ROUND_TRIP: Place = Place {
-        boards: 0,
-        measure: 4,
-        limit: 0,
-        taken: Pick(0),
-        start: Pick(1),
-        boundary: Pick(0),
-        failed: false,
-        passed: false,
-        compositions: Compositions(0),
-        tests: Tests(0),
+        settings: Settings {
+            boards: 0,
+            measure: 4,
+            limit: 0,
+        },
+        window: Window::FIRST,
+        marks: TestMarks::NONE,
+        counts: Counts::NONE,
     };
 
     // Zeros and noes: what a refused opening hands back.
     pub const NOWHERE: Place = Place {
-        boards: 0,
-        measure: 0,
-        limit: 0,
-        taken: Pick(0),
-        start: Pick(0),
-        boundary: Pick(0),
-        failed: false,
-        passed: false,
-        compositions: Compositions(0),
-        tests: Tests(0),
+        settings: Settings {
+            boards: 0,
+            measure: 0,
+            limit: 0,
+        },
+        window: Window::NOWHERE,
+        marks: TestMarks::NONE,
+        counts: Counts::NONE,
     };
 
     // The fresh value of a measure.
@@ -128,76 +171,75 @@ impl Place {
         ensures { λ r. ⌜ r ≡ fresh measure n limit ⌝ }
     {
         let mut p = Place::of_measure(measure);
-        p.boards = n;
-        p.limit = limit;
+        let mut s = p.settings;
+        s.boards = n;
+        s.limit = limit;
+        p.settings = s;
         p
-    }
-
-    // One pick more.
-    pub fn pick_taken(mut self) -> Place
-        requires { ⌜ self .taken .0 ≤ 4096 ⌝ }
-        ensures { λ r. ⌜ r ≡ pickTaken self ⌝ }
-    {
-        let m = self.taken;
-        let more = Pick(m.0 + 1);
-        self.taken = more;
-        self
     }
 
     // k picks more.
     pub fn picks_taken(mut self, k: usize) -> Place
-        requires { ⌜ (self .taken .0 ≤ 4096) × (k ≤ 4096) ⌝ }
+        requires { ⌜ (self .window .taken .0 ≤ 4096) × (k ≤ 4096) ⌝ }
         ensures { λ r. ⌜ r ≡ picksTaken self k ⌝ }
     {
-        let m = self.taken;
+        let mut w = self.window;
+        let m = w.taken;
         let more = Pick(m.0 + k);
-        self.taken = more;
+        w.taken = more;
+        self.window = w;
         self
     }
 
     // The start moved on by k.
     pub fn start_moved(mut self, k: usize) -> Place
-        requires { ⌜ (self .start .0 ≤ 4097) × (k ≤ 1) ⌝ }
+        requires { ⌜ (self .window .start .0 ≤ 4097) × (k ≤ 1) ⌝ }
         ensures { λ r. ⌜ r ≡ startMoved self k ⌝ }
     {
-        let s = self.start;
+        let mut w = self.window;
+        let s = w.start;
         let next = Pick(s.0 + k);
-        self.start = next;
+        w.start = next;
+        self.window = w;
         self
     }
 
     // The boundary at the last pick.
-    pub fn turned(mut self) -> Place
-        ensures { λ r. ⌜ r ≡ turned self ⌝ }
+    pub fn boundary_moved(mut self) -> Place
+        ensures { λ r. ⌜ r ≡ boundaryMoved self ⌝ }
     {
-        let m = self.taken;
-        self.boundary = m;
+        let mut w = self.window;
+        let m = w.taken;
+        w.boundary = m;
+        self.window = w;
         self
     }
 
     // k compositions more on the count.
     pub fn charged(mut self, k: usize) -> Place
-        requires { ⌜ (self .compositions .0 ≤ 100000000) × (k ≤ 4096) ⌝ }
+        requires { ⌜ (self .counts .compositions .0 ≤ mostCounted) × (k ≤ 4096) ⌝ }
         ensures { λ r. ⌜ r ≡ charged self k ⌝ }
     {
-        let c = self.compositions;
+        let mut counts = self.counts;
+        let c = counts.compositions;
         let more = Compositions(c.0 + k);
-        self.compositions = more;
+        counts.compositions = more;
+        self.counts = counts;
         self
     }
 
     // One test more on the count, and its result.
     pub fn tested(mut self, passed: bool) -> Place
-        requires { ⌜ self .tests .0 ≤ 100000000 ⌝ }
+        requires { ⌜ self .counts .tests .0 ≤ mostCounted ⌝ }
         ensures { λ r. ⌜ r ≡ tested self passed ⌝ }
     {
-        let t = self.tests;
+        let mut counts = self.counts;
+        let t = counts.tests;
         let more = Tests(t.0 + 1);
-        self.tests = more;
-        self.passed = passed;
-        if !passed {
-            self.failed = true;
-        }
+        counts.tests = more;
+        self.counts = counts;
+        let marks = self.marks.with(passed);
+        self.marks = marks;
         self
     }
 
@@ -205,38 +247,38 @@ impl Place {
     fn is_in_range(self) -> bool
         ensures { λ r. ⌜ r ≡ inRange self ⌝ }
     {
-        if !is_between(2, self.boards, 32) {
+        if !model::is_between(2, self.settings.boards, 32) {
             return false;
         }
-        if !is_between(1, self.measure, 4) {
+        if !model::is_between(1, self.settings.measure, 4) {
             return false;
         }
-        is_between(1, self.limit, 4096)
+        model::is_between(1, self.settings.limit, 4096)
     }
 
     // m is not above limit, b not above m, s is 1 to b + 1. In this order, so that b + 1 is a number whatever the place holds.
     fn is_sound_window(self) -> bool
-        requires { ⌜ self .limit ≤ 4096 ⌝ }
+        requires { ⌜ self .settings .limit ≤ 4096 ⌝ }
         ensures { λ r. ⌜ r ≡ soundWindow self ⌝ }
     {
-        let m = self.taken;
-        let b = self.boundary;
-        let s = self.start;
-        if self.limit < m.0 {
+        let m = self.window.taken;
+        let b = self.window.boundary;
+        let s = self.window.start;
+        if self.settings.limit < m.0 {
             return false;
         }
         if m.0 < b.0 {
             return false;
         }
-        is_between(1, s.0, b.0 + 1)
+        model::is_between(1, s.0, b.0 + 1)
     }
 
     // s is not above m when m is 1 or more.
     fn is_sound_start(self) -> bool
         ensures { λ r. ⌜ r ≡ soundStart self ⌝ }
     {
-        let m = self.taken;
-        let s = self.start;
+        let m = self.window.taken;
+        let s = self.window.start;
         if m.0 == 0 {
             return true;
         }
@@ -247,24 +289,24 @@ impl Place {
     fn are_sound_marks(self) -> bool
         ensures { λ r. ⌜ r ≡ soundMarks self ⌝ }
     {
-        let m = self.taken;
+        let m = self.window.taken;
         if 1 <= m.0 {
             return true;
         }
-        if self.failed {
+        if self.marks.failed {
             return false;
         }
-        !self.passed
+        !self.marks.passed
     }
 
     // Compositions are not above 4 × m, tests not above 2 × m.
     fn are_sound_counts(self) -> bool
-        requires { ⌜ self .taken .0 ≤ 4096 ⌝ }
+        requires { ⌜ self .window .taken .0 ≤ 4096 ⌝ }
         ensures { λ r. ⌜ r ≡ soundCounts self ⌝ }
     {
-        let m = self.taken;
-        let c = self.compositions;
-        let t = self.tests;
+        let m = self.window.taken;
+        let c = self.counts.compositions;
+        let t = self.counts.tests;
         if 4 * m.0 < c.0 {
             return false;
         }

@@ -1,22 +1,20 @@
 -- The table of reach, pick by pick, and what a verdict says. Assumes nothing.
 use mathlib.Core.Path.{_≡_, refl, sym, ap, ap₂, _∙_}
-use mathlib.Core.Bool.{not}
 use mathlib.Core.List.{List, [], _∷_, _++_}
-use Prim.Native.Nat.{ℕ, suc, _+_, _-_, _*_, _/_, _%_, _≤_}
-use native.Mathlib.Nat.{sub-zero, div-add-mod'}
+use Prim.Native.Nat.{ℕ, suc, _+_, _-_, _*_, _/_, _≤_}
+use native.Mathlib.Nat.{sub-zero}
 use native.Mathlib.Numerals.{add-one}
 use native.Mathlib.Omega.{arith}
-use lib.Dec.{T, eqb, eqb→eq, ltb}
+use lib.Dec.{T}
 use lib.ListN.{length, take}
 use lib.Seq.{length-take-le}
-use Rattle.model.proofs.Logic.{tr, eq-refl}
+use Rattle.model.proofs.Causes.{none-holds}
 use Rattle.links.specs.Tables.{compose, within}
 use Rattle.links.specs.Composed.{composedFrom, composed, reach}
 use Rattle.checks.specs.Lent.{lentPick, lentPicks, cleanPicks}
 use Rattle.checks.proofs.Lent.{length-lent}
-use Rattle.place.specs.Places.{between}
-use Rattle.verdicts.proofs.Verdicts.{stop-out, stop-step, between-says, holds-by, true-of, not-short, passes, in-range, long-enough, whole-picks, some-picks}
-use Rattle.reach.specs.Tables.{tableVerdict}
+use Rattle.verdicts.proofs.Verdicts.{between-says, holds-by, true-of, not-short, passes, in-range, long-enough, lent-sound, lent-none}
+use Rattle.reach.specs.Tables.{tableCauses, tableVerdict}
 
 from-snoc : (n h i : ℕ) (t : List ℕ) (ps : List (List ℕ)) (p : List ℕ)
     → composedFrom (compose n) (λ i. within n h) i t (ps ++ (p ∷ [])) ≡ compose n (composedFrom (compose n) (λ i. within n h) i t ps) (within n h p)
@@ -48,43 +46,50 @@ pub record Tables (n m : ℕ) (w out : List ℕ) : Type 0 where
 pub table-sound : (n : ℕ) (w out : List ℕ) → tableVerdict n w out ≡ 0 → Tables n (length w / n) w out
 unfolding tableVerdict
 table-sound n w out e =
-    let m = length w / n in
-    let s1 = stop-out (not (between 2 n 32)) 1 _ (omega arith) e in
-    let s2 = stop-out (not (eqb (length w % n) 0)) 10 _ (omega arith) (s1 .1) in
-    let s3 = stop-out (eqb (length w / n) 0) 8 _ (omega arith) (s2 .1) in
-    let s4 = stop-out (ltb 4096 (length w / n)) 3 _ (omega arith) (s3 .1) in
-    let s5 = stop-out (ltb (length out) n) 4 _ (omega arith) (s4 .1) in
-    let s6 = stop-out (not (cleanPicks n w (length w / n))) 5 0 (omega arith) (s5 .1) in
-    let b = between-says 2 n 32 (holds-by refl (s1 .0)) in
-    let z : length w % n ≡ 0 = eqb→eq (length w % n) 0 (true-of (eqb (length w % n) 0) (s2 .0)) in
-    let nz : m ≡ 0 → ⊥ = λ h. tr (s3 .0) (eq-refl h) in
-    let d = div-add-mod' (length w) n in
+    let s = none-holds (tableCauses n w out) tt .0 e in
+    let t = s .1 in
+    let l = lent-sound n w (t .0, (t .1 .0, (t .1 .1 .0, tt))) in
+    let b = between-says 2 n 32 (holds-by refl (s .0)) in
     record {
       some-boards = b .0;
       few = b .1;
-      words = omega arith;
-      some-picks = omega arith;
-      cap = not-short 4096 m (s4 .0);
-      room = not-short (length out) n (s5 .0);
-      clean = true-of (cleanPicks n w m) (s6 .0);
+      words = l .0;
+      some-picks = l .1;
+      cap = l .2;
+      room = not-short (length out) n (t .1 .1 .1 .0);
+      clean = true-of (cleanPicks n w (length w / n)) (t .1 .1 .1 .1 .0);
     }
 
 -- the other way
 pub tables-verdict : (n : ℕ) (w out : List ℕ) → Tables n (length w / n) w out → tableVerdict n w out ≡ 0
 unfolding tableVerdict
 tables-verdict n w out o =
-    sym (stop-step 1 (in-range 2 n 32 (o .some-boards) (o .few))
-    (stop-step 10 (whole-picks (length w) n (o .words))
-    (stop-step 8 (some-picks (length w / n) (o .some-picks))
-    (stop-step 3 (long-enough 4096 (length w / n) (o .cap))
-    (stop-step 4 (long-enough (length out) n (o .room))
-    (stop-step 5 (passes (cleanPicks n w (length w / n)) (o .clean)) refl))))))
+    let l = lent-none n w (o .words) (o .some-picks) (o .cap) in
+    none-holds (tableCauses n w out) tt .1 (
+      in-range 2 n 32 (o .some-boards) (o .few),
+      (
+        l .0,
+        (
+          l .1 .0,
+          (
+            l .1 .1 .0,
+            (
+              long-enough (length out) n (o .room),
+              (passes (cleanPicks n w (length w / n)) (o .clean), tt),
+            ),
+          ),
+        ),
+      ),
+    )
 
 -- one turn of the loop
-pub reach-turn : (n k : ℕ) (w out out′ p : List ℕ) → 1 ≤ k → out ≡ reach n 31 (lentPicks n w k) → p ≡ lentPick n w k → out′ ≡ compose n out (within n 31 p) → out′ ≡ reach n 31 (lentPicks n w (k + 1))
+pub reach-turn : (n k : ℕ) (w out out′ p : List ℕ) → 1 ≤ k → out ≡ reach n 31 (lentPicks n w k) → p ≡ lentPick n w k
+    → out′ ≡ compose n out (within n 31 p) → out′ ≡ reach n 31 (lentPicks n w (k + 1))
 unfolding lentPicks
 reach-turn n k w out out′ p l a b c =
-    c ∙ ap₂ (λ (x y : List ℕ). compose n x (within n 31 y)) a b ∙ sym (reach-snoc n 31 (lentPicks n w k) (lentPick n w k) (omega (arith, length-lent n w k))) ∙ ap (λ (i : ℕ). reach n 31 (lentPicks n w i)) (sym (add-one k))
+    c ∙ ap₂ (λ (x y : List ℕ). compose n x (within n 31 y)) a b
+    ∙ sym (reach-snoc n 31 (lentPicks n w k) (lentPick n w k) (omega (arith, length-lent n w k)))
+    ∙ ap (λ (i : ℕ). reach n 31 (lentPicks n w i)) (sym (add-one k))
 
 -- the first n words as code lends them
 pub front-long : (n : ℕ) (out : List ℕ) → n ≤ length out → n ≡ length (take (n - 0) out)

@@ -6,7 +6,8 @@ ghost use Rattle.links.specs.Tables.{compose, within};
 ghost use Rattle.links.specs.Composed.{reach};
 ghost use Rattle.checks.specs.Lent.{lentPicks};
 ghost use Rattle.verdicts.specs.Verdicts.{verdictSays};
-ghost use Rattle.reach.specs.Tables.{tableSays, tableVerdict, tableLeaves};
+ghost use Rattle.model.specs.Causes.{firstOf};
+ghost use Rattle.reach.specs.Tables.{tableSays, outCauses, tableVerdict, tableLeaves};
 use model::Refusal;
 use verdicts::Verdict;
 
@@ -37,23 +38,11 @@ fn write_table(out: &mut [u32], words: &[u32], n: usize, m: usize)
     }
 }
 
-// The causes, in their order: 1, 10, 8, 3, 4, 5.
-fn table_verdict(n: usize, words: &[u32], out: &[u32]) -> Verdict
-    ensures { λ r. ⌜ verdictSays r ≡ tableVerdict n (now (words .entry)) (now (out .entry)) ⌝ }
+// The causes after those of every lent recording: 4, 5.
+fn out_verdict(n: usize, words: &[u32], m: usize, out: &[u32]) -> Verdict
+    requires { ⌜ (n ≤ 32) × (m ≤ 4096) × (m * n ≤ length (now words)) ⌝ }
+    ensures { λ r. ⌜ verdictSays r ≡ firstOf (outCauses n (now (words .entry)) m (now (out .entry))) ⌝ }
 {
-    if !place::is_between(2, n, 32) {
-        return Verdict::Refuse(Refusal::Boards);
-    }
-    if words.len() % n != 0 {
-        return Verdict::Refuse(Refusal::Shape);
-    }
-    let m = words.len() / n;
-    if m == 0 {
-        return Verdict::Refuse(Refusal::NoPick);
-    }
-    if 4096 < m {
-        return Verdict::Refuse(Refusal::Picks);
-    }
     if out.len() < n {
         return Verdict::Refuse(Refusal::Room);
     }
@@ -61,6 +50,19 @@ fn table_verdict(n: usize, words: &[u32], out: &[u32]) -> Verdict
         return Verdict::Refuse(Refusal::Forbidden);
     }
     Verdict::Sound
+}
+
+// The causes, in their order: 1, 10, 8, 3, 4, 5.
+fn table_verdict(n: usize, words: &[u32], out: &[u32]) -> Verdict
+    ensures { λ r. ⌜ verdictSays r ≡ tableVerdict n (now (words .entry)) (now (out .entry)) ⌝ }
+{
+    if !model::is_between(2, n, 32) {
+        return Verdict::Refuse(Refusal::Boards);
+    }
+    match verdicts::lent_verdict(words, n) {
+        Verdict::Sound => out_verdict(n, words, words.len() / n, out),
+        Verdict::Refuse(c) => Verdict::Refuse(c),
+    }
 }
 
 // The table of a recording lent whole, n words a pick, into the first n words of out.

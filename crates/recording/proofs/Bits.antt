@@ -1,6 +1,6 @@
 -- A link flipped changes its own bit and no other: a pick stays one without a forbidden bit. Assumes nothing.
 use mathlib.Core.Path.{_≡_, refl, sym, ap, _∙_, subst}
-use mathlib.Core.Bool.{Bool, true, false, not, _&&_}
+use mathlib.Core.Bool.{Bool, true, false, not, _&&_, cond}
 use mathlib.Core.List.{List}
 use Prim.Native.Nat.{ℕ, zero, suc, _+_, _-_, _/_, _%_, _^_, _<_}
 use native.Mathlib.Nat.{div-eq-of-lt, mul-mod-left, pow-suc, mod-lt, zero-lt-suc, one-mul}
@@ -14,7 +14,6 @@ use lib.Seq.{getD-set-same, getD-set-other}
 use Rattle.model.specs.Recording.{bit, link, Clean}
 use Rattle.model.proofs.Logic.{tr}
 use Rattle.recording.specs.Format.{flipped}
-use Rattle.recording.specs.Grammar.{choose}
 use Rattle.commands.proofs.Admit.{Linkable}
 
 -- 2 ^ t has bit t only
@@ -82,17 +81,18 @@ clean-flip n links f t c l =
     own a m true e =
         let k = eqb-true a f e in
         let q : a ≡ t → ⊥ = λ z. l .apart (sym k ∙ z) in
-        c .loopless a (tr (ap (λ (w : ℕ). bit w a) (flip-same links f t a inside k) ∙ xor-other (getD links f 0) t a q ∙ ap (λ (i : ℕ). bit (getD links i 0) a) (sym k)) m)
+        let o = ap (λ (w : ℕ). bit w a) (flip-same links f t a inside k) ∙ xor-other (getD links f 0) t a q in
+        c .loopless a (tr (o ∙ ap (λ (i : ℕ). bit (getD links i 0) a) (sym k)) m)
     own a m false e = c .loopless a (tr (ap (λ (w : ℕ). bit w a) (flip-other links f t a (eqb-false a f e))) m)
 
 -- each link of the links with one flipped
 pub link-flipped : (links : List ℕ) (f t : ℕ) → f < length links → (u v : ℕ)
-    → link (flipped links f t) u v ≡ choose (eqb f u && eqb t v) (not (link links f t)) (link links u v)
+    → link (flipped links f t) u v ≡ cond (eqb f u && eqb t v) (not (link links f t)) (link links u v)
 unfolding link
 link-flipped links f t h u v = by (eqb f u) refl (eqb t v) refl
   where
     by : (x : Bool) → eqb f u ≡ x → (y : Bool) → eqb t v ≡ y
-        → bit (getD (flipped links f t) u 0) v ≡ choose (x && y) (not (bit (getD links f 0) t)) (bit (getD links u 0) v)
+        → bit (getD (flipped links f t) u 0) v ≡ cond (x && y) (not (bit (getD links f 0) t)) (bit (getD links u 0) v)
     by true e true q =
         let k = eqb-true f u e in
         let l = eqb-true t v q in

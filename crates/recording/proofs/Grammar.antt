@@ -9,6 +9,7 @@ use borrow.Author.Tests.{le-ltb}
 use lib.ListN.{length, getD, drop, length-append, length-drop, drop-of-length-le}
 use lib.Seq.{drop-at, drop-drop}
 use Rattle.model.specs.Recording.{link}
+use Rattle.model.specs.Causes.{firstOr}
 use Rattle.model.proofs.Logic.{tr}
 use Rattle.lists.specs.Tab.{zeros}
 use Rattle.checks.specs.Lent.{lentPick}
@@ -148,7 +149,7 @@ module _ (limit : ℕ) (bytes out : List ℕ) where
       }
 
   read-whole : (r : Reads limit (length out) bytes) → Ends bytes (r .n) [] (befores [] (r .acts)) (readFile limit (length out) bytes)
-  unfolding readFile spellFile
+  unfolding firstOr readFile spellFile
   read-whole r =
       let n = r .n in
       let xs = r .acts in

@@ -10,7 +10,7 @@ use Rattle.commands.specs.declared.Command.the-variants.{Boards, Later, Not}
 use Rattle.commands.specs.declared.Item.the-variants.{Link, Pick, End}
 use Rattle.commands.specs.Causes.{next}
 use Rattle.recording.specs.Format.{Content, follow, commands}
-use Rattle.recording.proofs.Along.{stopped}
+use Rattle.recording.proofs.Written.{stopped}
 
 follow-same : (m₁ m₂ : ℕ → List (List ℕ) → List ℕ → Content) (n at : ℕ) (picks : List (List ℕ)) (links : List ℕ)
     → ((to : ℕ) (ps : List (List ℕ)) (ls : List ℕ) → at < to → m₁ to ps ls ≡ m₂ to ps ls) → (x : Command)

@@ -1,22 +1,23 @@
 -- The laws of the reader: of every recording that is read, and of every output word. Assumes nothing.
 use mathlib.Core.Path.{_≡_, refl, sym, ap, ap₂, _∙_}
-use mathlib.Core.Bool.{Bool, true, false}
 use mathlib.Core.List.{List, [], _∷_, _++_, append-assoc}
-use Prim.Native.Nat.{ℕ, zero, suc, _+_, _-_, _*_, _≤_, _<_}
+use Prim.Native.Nat.{ℕ, zero, suc, _+_, _-_, _*_, _≤_, _<_, zero-le}
 use native.Mathlib.Nat.{zero-mul, suc-mul, not-suc-le-zero, le-of-suc-le-suc, mul-le-mul-right, le-refl}
 use native.Mathlib.Omega.{arith}
 use borrow.Author.Tests.{ltb-false}
 use lib.Dec.{ltb}
 use lib.ListN.{length, getD, take, drop, length-append, length-drop}
 use lib.Seq.{getD-append-add, getD-drop, take-at, drop-append-add, take-suc, take-length}
+use Rattle.lists.proofs.Splice.{splice-length, word-after}
+use Rattle.lists.specs.Tab.{splice}
 use Rattle.model.specs.Recording.{Recording, pickAt}
 use Rattle.model.specs.Refusals.{number}
 use Rattle.model.specs.declared.Refusal.{Refusal}
 use Rattle.model.specs.declared.Refusal.the-variants as cause
-use Rattle.model.proofs.Logic.{tr, eq-refl}
-use Rattle.model.proofs.Refusals.{number-some}
+use Rattle.model.proofs.Causes.{none-refused}
+use Rattle.model.proofs.Refusals.{number-range}
 use Rattle.checks.specs.Lent.{lentPick, lentPicks}
-use Rattle.recording.specs.Format.{Content, ended, refused, unless, alone, recordingAt, readFile, words, over, stored}
+use Rattle.recording.specs.Format.{Content, ended, refused, alone, recordingAt, readFile, words, stored}
 use Rattle.recording.specs.Answers.{Read, read, ReadAt, readAt, fileSays, partSays, partOf, readSays, readLeaves, readAtSays, readAtLeaves}
 use Rattle.recording.specs.Gives.{Gives}
 use Rattle.commands.proofs.Admit.{no}
@@ -29,16 +30,6 @@ unfolding words
 length-words n [] a = sym (zero-mul n)
 length-words n (p ∷ ps) a = rw (length-append, length-words n ps (a .1), a .0 .words .size) (omega (arith, suc-mul (length ps) n))
 
-over-beyond : (xs out : List ℕ) (i : ℕ) → length xs ≤ i → getD (over xs out) i 0 ≡ getD out i 0
-unfolding over
-over-beyond xs out i h =
-    let e : i ≡ length xs + (i - length xs) = omega arith in
-    rw e (getD-append-add xs (drop (length xs) out) (i - length xs) 0 ∙ getD-drop (length xs) out (i - length xs) 0)
-
-length-over : (xs out : List ℕ) → length xs ≤ length out → length (over xs out) ≡ length out
-unfolding over
-length-over xs out h = rw (length-append, length-drop) (omega arith)
-
 word-at : (n : ℕ) (ps : List (List ℕ)) (rest : List ℕ) (k : ℕ) → Recording n ps → k < length ps → lentPick n (words ps ++ rest) k ≡ getD ps k []
 unfolding words lentPick
 word-at n [] rest k a h = absurd (not-suc-le-zero h)
@@ -48,30 +39,33 @@ word-at n (q ∷ ps) rest (suc k) a h =
     rw (append-assoc, e, drop-append-add q (words ps ++ rest) (k * n)) (word-at n ps rest k (a .1) (le-of-suc-le-suc h))
 
 -- the words lent back are the picks
-lent-back : (n : ℕ) (ps : List (List ℕ)) (rest : List ℕ) → Recording n ps → (k : ℕ) → k ≤ length ps → lentPicks n (words ps ++ rest) k ≡ take k ps
+lent-back : (n : ℕ) (ps : List (List ℕ)) (rest : List ℕ) → Recording n ps → (k : ℕ) → k ≤ length ps
+    → lentPicks n (words ps ++ rest) k ≡ take k ps
 unfolding lentPicks
 lent-back n ps rest a zero h = refl
 lent-back n ps rest a (suc k) h =
-    ap₂ (λ (r : List (List ℕ)) (p : List ℕ). r ++ (p ∷ [])) (lent-back n ps rest a k (omega arith)) (word-at n ps rest k a h) ∙ sym (take-suc ps k [] h)
+    ap₂ (λ (r : List (List ℕ)) (p : List ℕ). r ++ (p ∷ [])) (lent-back n ps rest a k (omega arith)) (word-at n ps rest k a h)
+    ∙ sym (take-suc ps k [] h)
 
 -- ---- a recording that is read, wherever it starts
 
-module _ {limit : ℕ} {bytes : List ℕ} {start n : ℕ} {picks : List (List ℕ)} {end : ℕ} (out : List ℕ) (f : Found limit (length out) bytes start n picks end) where
+module _ {limit : ℕ} {bytes : List ℕ} {start n : ℕ} {picks : List (List ℕ)} {end : ℕ} (out : List ℕ)
+    (f : Found limit (length out) bytes start n picks end) where
   fits : length picks * n ≤ length out
   fits = omega (arith, mul-le-mul-right n (f .sound .few), f .head .room-for)
 
-  long : length (over (words picks) out) ≡ length out
-  long = length-over (words picks) out (rw (length-words n picks (f .sound .clean)) fits)
+  long : length (splice 0 (length (words picks)) (words picks) out) ≡ length out
+  long = splice-length 0 (length (words picks)) (words picks) out refl zero-le (rw (length-words n picks (f .sound .clean)) (omega (arith, fits)))
 
-  back : lentPicks n (over (words picks) out) (length picks) ≡ picks
-  unfolding over
+  back : lentPicks n (splice 0 (length (words picks)) (words picks) out) (length picks) ≡ picks
+  unfolding splice
   back = lent-back n picks (drop (length (words picks)) out) (f .sound .clean) (length picks) (le-refl (length picks)) ∙ take-length picks
 
-  one : (k : ℕ) → k < length picks → lentPick n (over (words picks) out) k ≡ getD picks k []
-  unfolding over
+  one : (k : ℕ) → k < length picks → lentPick n (splice 0 (length (words picks)) (words picks) out) k ≡ getD picks k []
+  unfolding splice
   one k h = word-at n picks (drop (length (words picks)) out) k (f .sound .clean) h
 
-  gives : Gives limit n (length picks) out (over (words picks) out)
+  gives : Gives limit n (length picks) out (splice 0 (length (words picks)) (words picks) out)
   gives = record {
     low = f .head .low;
     high = f .head .high;
@@ -79,13 +73,13 @@ module _ {limit : ℕ} {bytes : List ℕ} {start n : ℕ} {picks : List (List �
     room-for = rw long fits;
     recording = rw back (f .sound .clean);
     long = long;
-    beyond = λ i h. over-beyond (words picks) out i (rw (length-words n picks (f .sound .clean)) h);
+    beyond = λ i h. word-after 0 (length (words picks)) (words picks) out refl zero-le i (rw (length-words n picks (f .sound .clean)) (omega arith));
   }
 
 -- ---- `read_at`
 
 pub number-positive : (r : Refusal) → number r ≡ 0 → ⊥
-number-positive r e = tr (number-some r) (eq-refl e)
+number-positive r e = omega (arith, number-range r .0)
 
 module _ (limit : ℕ) (bytes : List ℕ) (start : ℕ) (out : List ℕ) where
   -- a recording that is read ends behind its start and within the file
@@ -130,21 +124,17 @@ module _ (limit : ℕ) (bytes : List ℕ) (start : ℕ) (out : List ℕ) where
 
 -- ---- `read`
 
-by-end : (t : Bool) (n : ℕ) (ps : List (List ℕ)) (e m : ℕ) (qs : List (List ℕ)) (f : ℕ)
-    → unless t cause.Trailing (ended n ps e) ≡ ended m qs f → (t ≡ false) × (ended n ps e ≡ ended m qs f)
-by-end true n ps e m qs f q = absurd (no cc)
-by-end false n ps e m qs f q = (refl, q)
-
-pub is-alone : (bytes : List ℕ) (o : Content) (n : ℕ) (ps : List (List ℕ)) (e : ℕ) → alone bytes o ≡ ended n ps e → (o ≡ ended n ps e) × (length bytes ≤ e)
+pub is-alone : (bytes : List ℕ) (o : Content) (n : ℕ) (ps : List (List ℕ)) (e : ℕ) → alone bytes o ≡ ended n ps e → (o ≡ ended n ps e)
+    × (length bytes ≤ e)
 is-alone bytes (ended m qs f) n ps e q =
-    let p = by-end (ltb f (length bytes)) m qs f n ps e q in
-    let i = p .1 in
+    let (a, i) = none-refused refused (λ (z : Content). z ≡ ended n ps e) (λ r z. no cc) ((ltb f (length bytes), cause.Trailing) ∷ []) (ended m qs f) q in
     let k : f ≡ e = cc in
-    (i, rw (sym k) (ltb-false f (length bytes) (p .0)))
+    (i, rw (sym k) (ltb-false f (length bytes) (a .0)))
 is-alone bytes (refused r) n ps e q = absurd (no cc)
 
 module _ (limit : ℕ) (bytes out : List ℕ) where
-  whole : (n : ℕ) (picks : List (List ℕ)) (end : ℕ) → readFile limit (length out) bytes ≡ ended n picks end → Found limit (length out) bytes 0 n picks end
+  whole : (n : ℕ) (picks : List (List ℕ)) (end : ℕ) → readFile limit (length out) bytes ≡ ended n picks end
+      → Found limit (length out) bytes 0 n picks end
   unfolding readFile
   whole n picks end q = found limit (length out) bytes 0 n picks end (is-alone bytes (recordingAt limit (length out) bytes 0) n picks end q .0)
 

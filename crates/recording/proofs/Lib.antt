@@ -4,7 +4,6 @@ pub mod Causes
 pub mod Inverse
 pub mod Examples
 pub mod Others
-pub mod Along
 pub mod Written
 pub mod Bits
 pub mod Sound

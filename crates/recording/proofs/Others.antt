@@ -17,7 +17,8 @@ opened-other limit bytes start (Boards n) k = absurd (not-boards n k)
 opened-other limit bytes start (Later i) k = refl
 opened-other limit bytes start (Not r) k = refl
 
-pub follow-other : (more : ℕ → List (List ℕ) → List ℕ → Content) (n at : ℕ) (picks : List (List ℕ)) (links : List ℕ) (x : Command) → NotLater x
+pub follow-other : (more : ℕ → List (List ℕ) → List ℕ → Content) (n at : ℕ) (picks : List (List ℕ)) (links : List ℕ) (x : Command)
+    → NotLater x
     → follow more n at picks links x ≡ refused (refusalIn x)
 follow-other more n at picks links (Boards m) k = refl
 follow-other more n at picks links (Later i) k = absurd (not-later i k)

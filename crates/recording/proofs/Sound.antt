@@ -1,7 +1,7 @@
--- What holds of every recording that the commands end in, by one induction on the turns; and what an answer of `examine` says.
+-- What holds of every recording that the commands end in, by one induction on the turns; and what an answer of `go_over` says.
 -- Assumes nothing.
 use mathlib.Core.Path.{_≡_, refl, sym, ap, _∙_}
-use mathlib.Core.Bool.{false}
+use mathlib.Core.Bool.{Bool}
 use mathlib.Core.List.{List, [], _∷_, _++_}
 use Prim.Native.Nat.{ℕ, zero, suc, _+_, _≤_, _<_}
 use native.Mathlib.Omega.{arith}
@@ -10,16 +10,16 @@ use Rattle.model.specs.declared.Refusal.{Refusal}
 use Rattle.commands.specs.declared.Command.{Command}
 use Rattle.commands.specs.declared.Command.the-variants.{Boards, Later, Not}
 use Rattle.commands.specs.declared.Item.the-variants.{Link, Pick, End}
+use Rattle.recording.specs.declared.Part.{Part}
 use Rattle.recording.specs.declared.Part.the-variants as partIs
-use Rattle.commands.specs.Commands.{commandAt}
 use Rattle.commands.specs.Causes.{next, headAt}
 use Rattle.recording.specs.Format.{Content, ended, refused, follow, commands, body, opened, recordingAt}
-use Rattle.recording.specs.Answers.{partOf}
+use Rattle.recording.specs.Answers.{partOf, GoneOver}
 use Rattle.model.specs.Recording.{Clean, Recording}
 use Rattle.model.proofs.Windows.{rec-append}
 use Rattle.lists.specs.Tab.{zeros}
 use Rattle.links.proofs.Bits.{zeros-clean}
-use Rattle.commands.proofs.Admit.{no, linkable, admitted-link, admitted-pick, end-inside, Headed, headed}
+use Rattle.commands.proofs.Admit.{no, linkable, next-link, next-pick, next-end, Headed, headed}
 use Rattle.recording.proofs.Bits.{clean-flip}
 
 -- the state on the way
@@ -43,20 +43,26 @@ Lawful bytes n limit start (refused r) = Unit
 
 module _ (bytes : List ℕ) (n limit start : ℕ) where
   step : (more : ℕ → List (List ℕ) → List ℕ → Content)
-      → ((at : ℕ) (picks : List (List ℕ)) (links : List ℕ) → Good bytes n limit start at picks links → Lawful bytes n limit start (more at picks links))
+      → ((at : ℕ) (picks : List (List ℕ)) (links : List ℕ) → Good bytes n limit start at picks links
+      → Lawful bytes n limit start (more at picks links))
       → (at : ℕ) (picks : List (List ℕ)) (links : List ℕ) (x : Command) → next bytes n limit at (length picks) links ≡ x
       → Good bytes n limit start at picks links → Lawful bytes n limit start (follow more n at picks links x)
-  unfolding next
   step more ih at picks links (Later (Link a b v)) e g =
-      let l = admitted-link n limit (length picks) links (commandAt false bytes at) a b v e in
+      let l = next-link bytes n limit at (length picks) links a b v e in
       ih (at + 3) picks _
       record { on = omega (arith, g .on); few = g .few; clean = g .clean; now = clean-flip n links (a .0) (b .0) (g .now) (linkable n (a .0) (b .0) (l .able)) }
   step more ih at picks links (Later Pick) e g =
-      let h = admitted-pick n limit (length picks) links (commandAt false bytes at) e in
+      let h = next-pick bytes n limit at (length picks) links e in
       ih (at + 1) (picks ++ (links ∷ [])) links
-      record { on = omega (arith, g .on); few = rw length-append (omega arith); clean = rec-append n picks (links ∷ []) (g .clean) (g .now, tt); now = g .now }
+      record {
+        on = omega (arith, g .on);
+        few = rw length-append (omega arith);
+        clean = rec-append n picks (links ∷ []) (g .clean)
+            (g .now, tt);
+        now = g .now;
+      }
   step more ih at picks links (Later End) e g =
-      let h = end-inside bytes n limit at (length picks) links e in
+      let h = next-end bytes n limit at (length picks) links e in
       record { boards = refl; few = g .few; clean = g .clean; after = omega (arith, g .on); inside = omega arith }
   step more ih at picks links (Boards m) e g = tt
   step more ih at picks links (Not r) e g = tt
@@ -93,7 +99,8 @@ module _ (limit room : ℕ) (bytes : List ℕ) (start n : ℕ) (picks : List (Li
       }
   by-body m h (refused r) q l i = absurd (no cc)
 
-  by-head : (x : Command) → headAt limit room bytes start ≡ x → opened limit bytes start x ≡ ended n picks end → Found limit room bytes start n picks end
+  by-head : (x : Command) → headAt limit room bytes start ≡ x → opened limit bytes start x ≡ ended n picks end
+      → Found limit room bytes start n picks end
   by-head (Boards m) q i = by-body m (headed limit room bytes start m q) _ refl (body-lawful bytes m limit start) i
   by-head (Later j) q i = absurd (no cc)
   by-head (Not r) q i = absurd (no cc)
@@ -102,31 +109,29 @@ module _ (limit room : ℕ) (bytes : List ℕ) (start n : ℕ) (picks : List (Li
   unfolding recordingAt
   found i = by-head _ refl i
 
--- ---- what a caller of `examine` learns from its answer
+-- ---- what a caller of `go_over` learns from its answer
 
-pub record Answered (limit room : ℕ) (bytes : List ℕ) (start n count end : ℕ) : Type 0 where
+pub record Answered (o : Content) (n count end : ℕ) : Type 0 where
   pub picks : List (List ℕ)
   pub counted : length picks ≡ count
-  pub read : recordingAt limit room bytes start ≡ ended n picks end
-  pub found : Found limit room bytes start n picks end
+  pub read : o ≡ ended n picks end
 
-pub answered : (limit room : ℕ) (bytes : List ℕ) (start n count end : ℕ)
-    → partOf (recordingAt limit room bytes start) ≡ partIs.Ended n count end → Answered limit room bytes start n count end
-answered limit room bytes start n count end q = by (recordingAt limit room bytes start) refl q
-  where
-    by : (o : Content) → recordingAt limit room bytes start ≡ o → partOf o ≡ partIs.Ended n count end → Answered limit room bytes start n count end
-    by (ended m ps e) i j =
-        let em : m ≡ n = cc in
-        let ee : e ≡ end = cc in
-        let ec : length ps ≡ count = cc in
-        let k : recordingAt limit room bytes start ≡ ended n ps end = cc in
-        record { picks = ps; counted = ec; read = k; found = found limit room bytes start n ps end k }
-    by (refused r) i j = absurd (no cc)
+-- r is what was answered
+module _ {writes : Bool} {o : Content} {out : List ℕ} {r : Part} {left : List ℕ} (p : GoneOver writes o out r left) where
+  pub answered : {n count end : ℕ} → r ≡ partIs.Ended n count end → Answered o n count end
+  answered {n} {count} {end} e = by o (sym (p .says) ∙ e)
+    where
+      by : (o : Content) → partOf o ≡ partIs.Ended n count end → Answered o n count end
+      by (ended m ps f) q =
+          let em : m ≡ n = cc in
+          let ef : f ≡ end = cc in
+          let ec : length ps ≡ count = cc in
+          record { picks = ps; counted = ec; read = rw (em, ef) }
+      by (refused s) q = absurd (no cc)
 
-is-refused : (o : Content) (r : Refusal) → partOf o ≡ partIs.Refused r → o ≡ refused r
-is-refused (ended n picks end) r q = absurd (no cc)
-is-refused (refused s) r q = let e : s ≡ r = cc in ap refused e
-
-pub answered-not : (limit room : ℕ) (bytes : List ℕ) (start : ℕ) (r : Refusal)
-    → partOf (recordingAt limit room bytes start) ≡ partIs.Refused r → recordingAt limit room bytes start ≡ refused r
-answered-not limit room bytes start r q = is-refused (recordingAt limit room bytes start) r q
+  pub answered-not : {s : Refusal} → r ≡ partIs.Refused s → o ≡ refused s
+  answered-not {s} e = by o (sym (p .says) ∙ e)
+    where
+      by : (o : Content) → partOf o ≡ partIs.Refused s → o ≡ refused s
+      by (ended n picks end) q = absurd (no cc)
+      by (refused t) q = let i : t ≡ s = cc in ap refused i

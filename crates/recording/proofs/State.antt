@@ -1,6 +1,6 @@
 -- The reader's state and the acts read so far, one act after the other. Assumes nothing.
 use mathlib.Core.Path.{_≡_, refl, sym, ap, _∙_}
-use mathlib.Core.Bool.{Bool, true, false, not, _&&_}
+use mathlib.Core.Bool.{Bool, true, false, not, _&&_, cond}
 use mathlib.Core.List.{List, [], _∷_}
 use Prim.Native.Nat.{ℕ, _+_, _≤_}
 use native.Mathlib.Omega.{arith}
@@ -10,7 +10,7 @@ use Rattle.model.specs.Recording.{link, Clean}
 use Rattle.model.proofs.Logic.{F→≡}
 use Rattle.lists.specs.Tab.{zeros}
 use Rattle.links.proofs.Bits.{zeros-none, zeros-clean}
-use Rattle.recording.specs.Grammar.{Act, sets, pick, choose, isOpen, befores, Follow}
+use Rattle.recording.specs.Grammar.{Act, sets, pick, isOpen, befores, Follow}
 use Rattle.recording.proofs.Bits.{clean-flip, link-flipped}
 use Rattle.recording.proofs.Turn.{May, after, taking}
 
@@ -25,7 +25,7 @@ unfolding isOpen
 now-start n limit = record { clean = zeros-clean n; each = λ u v. F→≡ (link (zeros n) u v) (zeros-none n u v); few = omega arith }
 
 -- a link that is not so already is set
-set-so : (t x y z : Bool) → y ≡ not x → choose t (not y) z ≡ choose t x z
+set-so : (t x y z : Bool) → y ≡ not x → cond t (not y) z ≡ cond t x z
 set-so true true y z e = ap not e
 set-so true false y z e = ap not e
 set-so false x y z e = refl
@@ -38,7 +38,7 @@ module _ {n limit : ℕ} {earlier : List Act} {picks : List (List ℕ)} {links :
         clean = clean-flip n links a b (s .clean) (m .0);
         each = λ u v. link-flipped links a b (omega (arith, s .clean .words .size, m .0 .from)) u v
             ∙ set-so (eqb a u && eqb b v) x (link links a b) (link links u v) (m .1)
-            ∙ ap (choose (eqb a u && eqb b v) x) (s .each u v);
+            ∙ ap (cond (eqb a u && eqb b v) x) (s .each u v);
         few = s .few;
       }
   now-on pick m = record { clean = s .clean; each = s .each; few = rw length-append (omega arith) }

@@ -10,17 +10,18 @@ use lib.Dec.{eqb}
 use lib.ListN.{length, getD, take, drop, length-drop, take-append-drop}
 use lib.Seq.{length-take-le, drop-cons}
 use Rattle.model.specs.Recording.{link}
-use Rattle.model.specs.declared.Refusal.{Refusal}
+use Rattle.model.specs.Causes.{NoneHolds, firstOr, byNumber}
 use Rattle.commands.specs.declared.Width.the-variants.{Known}
 use Rattle.commands.specs.declared.Command.{Command}
 use Rattle.commands.specs.declared.Command.the-variants.{Boards, Later}
 use Rattle.commands.specs.declared.Item.the-variants.{Link}
-use Rattle.commands.specs.Commands.{shapes, lookup, widthOf, refuse, commandOf, misplaced, commandAt}
-use Rattle.commands.specs.Causes.{noLink, unchanged, headAt, admitted, next}
-use Rattle.commands.proofs.Admit.{no, Linkable, linkable, past-as, stood, Headed}
+use Rattle.commands.specs.Commands.{shapes, lookup, widthOf, commandOf, misplaced, commandAt}
+use Rattle.commands.specs.Causes.{noLink, unchanged, laterCauses, next}
+use Rattle.commands.proofs.Admit.{no, Linkable, linkable, stood, Headed}
+use Rattle.commands.proofs.Others.{next-then, head-boards}
 use Rattle.commands.proofs.Table.{Every, by-shape}
 use Rattle.commands.proofs.Inverse.{command-here}
-use Rattle.recording.specs.Format.{Content, ended, refused, flipped, follow, commands, body, recordingAt}
+use Rattle.recording.specs.Format.{Content, ended, flipped, follow, commands, body, recordingAt}
 use Rattle.recording.specs.Grammar.{Act, sets, pick, code, spell}
 
 -- ---- what an act asks of the reader's state, and makes of it
@@ -59,30 +60,25 @@ module _ (bytes : List ℕ) (at c : ℕ) (rest : List ℕ) (e : drop at bytes �
 module _ (bytes : List ℕ) (n limit turns at : ℕ) (picks : List (List ℕ)) (links : List ℕ) where
   pub act-turn : (x : Act) (rest : List ℕ) → drop at bytes ≡ spell x ++ rest → May n limit (length picks) links x
       → commands bytes n limit (suc turns) at picks links ≡ commands bytes n limit turns (at + length (spell x)) (taking picks links x) (after links x)
-  unfolding commands next refuse commandOf widthOf lookup
+  unfolding commands firstOr commandOf widthOf lookup
   act-turn (sets true a b) rest e m =
-      simp (here bytes at 0x4F (a ∷ b ∷ rest) e false 2 refl refl (omega arith), able n a b (m .0), changes true (link links a b) (m .1))
+      simp (next-then, here bytes at 0x4F (a ∷ b ∷ rest) e false 2 refl refl (omega arith), able n a b (m .0), changes true (link links a b) (m .1))
   act-turn (sets false a b) rest e m =
-      simp (here bytes at 0x53 (a ∷ b ∷ rest) e false 2 refl refl (omega arith), able n a b (m .0), changes false (link links a b) (m .1))
-  act-turn pick rest e m = simp (here bytes at 0x50 rest e false 0 refl refl (omega arith), lt-leb limit (length picks) m)
+      simp (next-then, here bytes at 0x53 (a ∷ b ∷ rest) e false 2 refl refl (omega arith), able n a b (m .0), changes false (link links a b) (m .1))
+  act-turn pick rest e m = simp (next-then, here bytes at 0x50 rest e false 0 refl refl (omega arith), lt-leb limit (length picks) m)
 
   pub end-turn : (rest : List ℕ) → drop at bytes ≡ 0x45 ∷ rest → commands bytes n limit (suc turns) at picks links ≡ ended n picks (at + 1)
-  unfolding commands next refuse commandOf widthOf lookup
-  end-turn rest e = simp (here bytes at 0x45 rest e false 0 refl refl (omega arith))
+  unfolding commands firstOr commandOf widthOf lookup
+  end-turn rest e = simp (next-then, here bytes at 0x45 rest e false 0 refl refl (omega arith))
 
 -- the first command, where the call and n pass
-pub head-turn : (limit room : ℕ) (bytes : List ℕ) (n : ℕ) (rest : List ℕ) → bytes ≡ 0x42 ∷ n ∷ rest → 1 ≤ limit → limit ≤ 4096 → 2 ≤ n → n ≤ 32
+pub head-turn : (limit room : ℕ) (bytes : List ℕ) (n : ℕ) (rest : List ℕ) → bytes ≡ 0x42 ∷ n ∷ rest → 1 ≤ limit → limit ≤ 4096
+    → 2 ≤ n → n ≤ 32
     → limit * n ≤ room → recordingAt limit room bytes 0 ≡ body limit bytes 0 n
-unfolding recordingAt headAt refuse commandOf widthOf lookup
+unfolding recordingAt firstOr commandOf widthOf lookup
 head-turn limit room bytes n rest e a b c d r =
-    simp (
-      ne-eqb limit 0 (λ z. omega arith),
-      le-ltb 4096 limit b,
-      here bytes 0 0x42 (n ∷ rest) e true 1 refl refl (omega arith),
-      le-ltb n 2 c,
-      le-ltb 32 n d,
-      le-ltb room (limit * n) r,
-    )
+    let h = here bytes 0 0x42 (n ∷ rest) e true 1 refl refl (omega arith) in
+    simp (head-boards room bytes 0 (λ z. omega arith) b refl h, le-ltb n 2 c, le-ltb 32 n d, le-ltb room (limit * n) r)
 
 -- ---- backwards: the bytes at a turn that goes on
 
@@ -103,27 +99,23 @@ module _ (bytes : List ℕ) (n limit at : ℕ) (picks : List (List ℕ)) (links 
   abbrev Goes : Command → Type 0
   Goes x = follow more n at picks links x ≡ ended m ps end
 
-  abbrev Admitted : Command → Type 0
-  Admitted x = Goes (admitted n limit (length picks) links x)
+  -- none of its causes holds
+  abbrev Fits : Command → Type 0
+  Fits x = NoneHolds (byNumber (laterCauses n limit (length picks) links x))
 
   abbrev Here : Type 0
   Here = Turned bytes n limit at picks links more (ended m ps end)
 
-  never : (r : Refusal) → refused r ≡ ended m ps end → ⊥
-  never r q = no cc
-
   -- what is to be shown of a command byte at the place, with k operands
   abbrev Byte : ℕ → ℕ → Type 0
   Byte b k = b ≡ getD bytes at 0 → misplaced false b ≡ false → at + 1 + k ≤ length bytes
-      → Admitted (commandOf b (getD bytes (at + 1) 0) (getD bytes (at + 2) 0)) → Here
+      → Fits (commandOf b (getD bytes (at + 1) 0) (getD bytes (at + 2) 0)) → Goes (commandOf b (getD bytes (at + 1) 0) (getD bytes (at + 2) 0)) → Here
 
   by-link : (x : Bool) → code x ≡ getD bytes at 0 → at + 1 + 2 ≤ length bytes
-      → Admitted (Later (Link (record { 0 = getD bytes (at + 1) 0 }) (record { 0 = getD bytes (at + 2) 0 }) x)) → Here
-  by-link x e h q =
+      → (let i = Later (Link (record { 0 = getD bytes (at + 1) 0 }) (record { 0 = getD bytes (at + 2) 0 }) x) in Fits i → Goes i → Here)
+  by-link x e h f q =
       let a = getD bytes (at + 1) 0 in
       let b = getD bytes (at + 2) 0 in
-      let p = past-as Goes never _ _ _ q in
-      let r = past-as Goes never _ _ _ (p .1) in
       let d : drop at bytes ≡ code x ∷ a ∷ b ∷ drop (at + 3) bytes =
       rw (
         e,
@@ -131,7 +123,7 @@ module _ (bytes : List ℕ) (n limit at : ℕ) (picks : List (List ℕ)) (links 
         front bytes (at + 1) (at + 2) (omega arith) (omega arith),
         front bytes (at + 2) (at + 3) (omega arith) (omega arith),
       ) in
-      at-act (sets x a b) d (linkable n a b (p .0), changed x (link links a b) (r .0)) (r .1)
+      at-act (sets x a b) d (linkable n a b (f .0), changed x (link links a b) (f .1 .0)) q
     where
       changed : (x y : Bool) → unchanged x y ≡ false → y ≡ not x
       changed true y e = e
@@ -139,29 +131,27 @@ module _ (bytes : List ℕ) (n limit at : ℕ) (picks : List (List ℕ)) (links 
 
   by-pick : Byte 0x50 0
   unfolding commandOf
-  by-pick e g h q =
-      let p = past-as Goes never _ _ _ q in
-      at-act pick (rw e (front bytes at (at + 1) (omega arith) (omega arith))) (leb-false limit (length picks) (p .0)) (p .1)
+  by-pick e g h f q = at-act pick (rw e (front bytes at (at + 1) (omega arith) (omega arith))) (leb-false limit (length picks) (f .0)) q
 
   by-end : Byte 0x45 0
   unfolding commandOf
-  by-end e g h q = at-end (rw e (front bytes at (at + 1) (omega arith) (omega arith))) q
+  by-end e g h f q = at-end (rw e (front bytes at (at + 1) (omega arith) (omega arith))) q
 
   each-byte : Every Byte shapes
   unfolding commandOf
-  each-byte = ((λ e g. absurd (true≢false g)), ((λ e g h q. by-link true e h q), ((λ e g h q. by-link false e h q), (by-pick, (by-end, tt)))))
+  each-byte = ((λ e g. absurd (true≢false g)), ((λ e g h f q. by-link true e h f q), ((λ e g h f q. by-link false e h f q), (by-pick, (by-end, tt)))))
 
   pub turned : Goes (next bytes n limit at (length picks) links) → Here
   unfolding next widthOf
   turned q =
-      let s = stood Admitted never false bytes at q in
-      by-shape Byte shapes each-byte (getD bytes at 0) (s .operands) (s .width) refl (s .placed) (s .within) (s .says)
+      let s = stood (laterCauses n limit (length picks) links) Goes (λ r z. no cc) false bytes at q in
+      by-shape Byte shapes each-byte (getD bytes at 0) (s .operands) (s .width) refl (s .placed) (s .within) (s .fits) (s .says)
 
 -- the first command
 pub head-back : {limit room : ℕ} {bytes : List ℕ} {n : ℕ} → Headed limit room bytes 0 n → bytes ≡ 0x42 ∷ n ∷ drop 2 bytes
 unfolding commandOf widthOf lookup
 head-back {bytes = bytes} {n = n} h =
-    let s = stood (λ (x : Command). x ≡ Boards n) (λ r e. no cc) true bytes 0 (h .says) in
+    let s = h .stands in
     let b : getD bytes 0 0 ≡ 0x42 = eqb-true (getD bytes 0 0) 0x42 (not-false (eqb (getD bytes 0 0) 0x42) (s .placed)) in
     let c : commandOf 0x42 (getD bytes 1 0) (getD bytes 2 0) ≡ Boards n = rw b at (s .says) in
     let x : getD bytes 1 0 ≡ n = cc in

@@ -1,4 +1,6 @@
 -- 01's number and values for each case of each answer, and what the calls answer and leave.
+use mathlib.Core.Path.{_≡_}
+use mathlib.Core.Bool.{Bool, cond}
 use mathlib.Core.List.{List}
 use Prim.Native.Nat.{ℕ}
 use lib.ListN.{length}
@@ -44,10 +46,14 @@ abbrev pub fileSays : Content → Read
 fileSays (ended n picks end) = read 0 n (length picks)
 fileSays (refused r) = read (number r) 0 0
 
--- the check of a recording
 abbrev pub partOf : Content → Part
 partOf (ended n picks end) = partIs.Ended n (length picks) end
 partOf (refused r) = partIs.Refused r
+
+-- going over a recording answers what it is, and leaves its words only where it writes
+pub record GoneOver (writes : Bool) (o : Content) (out : List ℕ) (r : Part) (left : List ℕ) : Type 0 where
+  pub says : r ≡ partOf o
+  pub leaves : left ≡ cond writes (stored o out) out
 
 -- ---- `read`
 

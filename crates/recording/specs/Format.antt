@@ -7,7 +7,8 @@ use lib.Dec.{ltb}
 use lib.ListN.{length, getD, set, take, drop}
 use Rattle.model.specs.declared.Refusal.{Refusal}
 use Rattle.model.specs.declared.Refusal.the-variants as cause
-use Rattle.lists.specs.Tab.{zeros}
+use Rattle.model.specs.Causes.{firstOr}
+use Rattle.lists.specs.Tab.{zeros, splice}
 use Rattle.commands.specs.declared.Command.{Command}
 use Rattle.commands.specs.declared.Command.the-variants.{Boards, Later, Not}
 use Rattle.commands.specs.declared.Item.the-variants.{Link, Pick, End}
@@ -57,13 +58,9 @@ opened limit bytes start (Not r) = refused r
 unfoldable pub recordingAt : ℕ → ℕ → List ℕ → ℕ → Content
 recordingAt limit room bytes start = opened limit bytes start (headAt limit room bytes start)
 
-abbrev pub unless : Bool → Refusal → Content → Content
-unless true r o = refused r
-unless false r o = o
-
 -- bytes after 45
 abbrev pub alone : List ℕ → Content → Content
-alone bytes (ended n picks end) = unless (ltb end (length bytes)) cause.Trailing (ended n picks end)
+alone bytes (ended n picks end) = firstOr refused ((ltb end (length bytes), cause.Trailing) ∷ []) (ended n picks end)
 alone bytes (refused r) = refused r
 
 -- a whole file, with room for `room` words of output
@@ -81,15 +78,7 @@ unfoldable pub words : List (List ℕ) → List ℕ
 words [] = []
 words (p ∷ ps) = p ++ words ps
 
--- xs over the front of ys
-unfoldable pub over : List ℕ → List ℕ → List ℕ
-over xs ys = xs ++ drop (length xs) ys
-
 -- the output words after a reading
 abbrev pub stored : Content → List ℕ → List ℕ
-stored (ended n picks end) out = over (words picks) out
+stored (ended n picks end) out = splice 0 (length (words picks)) (words picks) out
 stored (refused r) out = out
-
--- the output, with the words xs from `at` on
-unfoldable pub putAt : List ℕ → ℕ → List ℕ → List ℕ
-putAt out at xs = take at out ++ (xs ++ drop (length xs) (drop at out))

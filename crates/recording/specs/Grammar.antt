@@ -1,7 +1,7 @@
 -- THE GRAMMAR of recording files: 01's section "Recording files" without a reader. Which bytes are a file, and which links are open at each pick.
 use mathlib.Core.Path.{_≡_}
 use mathlib.Core.Logic.{_≢_, _↔_}
-use mathlib.Core.Bool.{Bool, true, false, _&&_, not}
+use mathlib.Core.Bool.{Bool, true, false, _&&_, not, cond}
 use mathlib.Core.List.{List, [], _∷_, _++_}
 use Prim.Native.Nat.{ℕ, _*_, _≤_, _<_}
 use lib.Dec.{T, eqb}
@@ -38,14 +38,10 @@ spellFile n xs = 0x42 ∷ n ∷ spellAll xs
 
 -- ---- which acts may follow each other; `earlier` has the acts before, the last of them first
 
-abbrev pub choose : Bool → Bool → Bool → Bool
-choose true x y = x
-choose false x y = y
-
 -- "All links start shut and stay as set": open or shut as the last act that names the link has set it
 unfoldable pub isOpen : List Act → ℕ → ℕ → Bool
 isOpen [] u v = false
-isOpen (sets x a b ∷ earlier) u v = choose (eqb a u && eqb b v) x (isOpen earlier u v)
+isOpen (sets x a b ∷ earlier) u v = cond (eqb a u && eqb b v) x (isOpen earlier u v)
 isOpen (pick ∷ earlier) u v = isOpen earlier u v
 
 -- what stands before each pick, one list of acts for each

@@ -1,11 +1,12 @@
-// A reader of recording files. A file is gone over twice: once to check it all, and once, if nothing refuses it, to write its picks.
+// A reader of recording files. A file is gone over twice, in the same way: once to check it all, and once, if nothing refuses it, to write its picks.
 ghost use mathlib.Core.Path.{_≡_};
-ghost use mathlib.Core.Bool.{true};
+ghost use mathlib.Core.Bool.{true, cond};
 ghost use mathlib.Core.List.{[]};
 ghost use Prim.Native.Nat.{_+_, _*_, _≤_, _<_};
 ghost use lib.ListN.{length};
-ghost use Rattle.recording.specs.Format.{flipped, commands, refusalIn, recordingAt, body, isEnded, stored, putAt};
-ghost use Rattle.recording.specs.Answers.{readingSays, partSays, partOf, readSays, readLeaves, readAtSays, readAtLeaves};
+ghost use Rattle.lists.specs.Tab.{splice};
+ghost use Rattle.recording.specs.Format.{flipped, commands, refusalIn, recordingAt, isEnded};
+ghost use Rattle.recording.specs.Answers.{readingSays, partSays, GoneOver, readSays, readLeaves, readAtSays, readAtLeaves};
 use commands::Command;
 use commands::Item;
 use model::Board;
@@ -27,7 +28,7 @@ pub enum Reading {
     Refused(Refusal),
 }
 
-// ---- the two passes over the commands
+// ---- a recording gone over: checked, and written where that is asked
 
 // Opens a shut link, shuts an open one.
 fn flip(links: &mut [u32], from: Board, to: Board)
@@ -49,10 +50,33 @@ fn refusal_in(command: Command) -> Refusal
     }
 }
 
-// Checks the commands after the first, up to the 45. A command that cannot be taken apart ends the reading with its number.
-fn scan(bytes: &[u8], start: usize, n: usize, limit: usize, links: &mut [u32]) -> Part
-    requires { ⌜ (n ≡ length (now links)) × (n ≤ 32) ⌝ }
-    ensures { λ r. ⌜ r ≡ partOf (commands (now (bytes .entry)) n limit (length (now (bytes .entry))) start [] (now (links .entry))) ⌝ }
+// Writes the open links as the pick with that many before it; nothing where the file is only checked.
+fn put(out: &mut [u32], before: usize, n: usize, links: &[u32], writes: bool)
+    requires { ⌜ (n ≡ length (now links)) × (before * n + n ≤ length (now out)) ⌝ }
+    ensures { λ _. ⌜ now (out .exit) ≡ cond writes (splice (before * n) (length (now (links .entry))) (now (links .entry)) (now (out .entry))) (now (out .entry)) ⌝ }
+{
+    if !writes {
+        return;
+    }
+    let at = before * n;
+    lists::copy_over(&mut out[at..at + n], links, n);
+}
+
+// Goes over the commands after the first, up to the 45, and writes the picks where that is asked. A command that cannot be taken apart ends the
+// reading with its number.
+fn go_over_commands(
+    bytes: &[u8],
+    start: usize,
+    n: usize,
+    limit: usize,
+    links: &mut [u32],
+    out: &mut [u32],
+    writes: bool,
+) -> Part
+    requires { ⌜ (n ≡ length (now links)) × (n ≤ 32) × (limit * n ≤ length (now out))
+        × (writes ≡ true → isEnded (commands (now bytes) n limit (length (now bytes)) start [] (now links)) ≡ true) ⌝ }
+    ensures { λ r. ⌜ GoneOver writes (commands (now (bytes .entry)) n limit (length (now (bytes .entry))) start [] (now (links .entry)))
+        (now (out .entry)) r (now (out .exit)) ⌝ }
 {
     let mut at = start;
     let mut picks: usize = 0;
@@ -67,6 +91,7 @@ fn scan(bytes: &[u8], start: usize, n: usize, limit: usize, links: &mut [u32]) -
                 at += 3;
             }
             Item::Pick => {
+                put(out, picks, n, links, writes);
                 picks += 1;
                 at += 1;
             }
@@ -82,93 +107,47 @@ fn scan(bytes: &[u8], start: usize, n: usize, limit: usize, links: &mut [u32]) -
     Part::Refused(Refusal::Stopped)
 }
 
-// Writes the open links as the pick with that many before it.
-fn put(out: &mut [u32], before: usize, n: usize, links: &[u32])
-    requires { ⌜ (n ≡ length (now links)) × (before * n + n ≤ length (now out)) ⌝ }
-    ensures { λ _. ⌜ now (out .exit) ≡ putAt (now (out .entry)) (before * n) (now (links .entry)) ⌝ }
+// Goes over the recording that starts at a place, up to its 45. It may write only a recording that was found whole before.
+fn go_over(bytes: &[u8], start: usize, limit: usize, out: &mut [u32], writes: bool) -> Part
+    requires { ⌜ (writes ≡ true → isEnded (recordingAt limit (length (now out)) (now bytes) start) ≡ true) ⌝ }
+    ensures { λ r. ⌜ GoneOver writes (recordingAt limit (length (now (out .entry))) (now (bytes .entry)) start) (now (out .entry)) r (now (out .exit)) ⌝ }
 {
-    let at = before * n;
-    lists::copy_over(&mut out[at..at + n], links, n);
-}
-
-// Writes the picks of a recording that a check has found whole: no command of it is refused.
-fn store(bytes: &[u8], start: usize, n: usize, limit: usize, links: &mut [u32], out: &mut [u32])
-    requires { ⌜ (n ≡ length (now links)) × (n ≤ 32) × (limit ≤ 4096) × (limit * n ≤ length (now out)) × (isEnded (commands (now bytes) n limit (length (now bytes)) start [] (now links)) ≡ true) ⌝ }
-    ensures { λ _. ⌜ now (out .exit) ≡ stored (commands (now (bytes .entry)) n limit (length (now (bytes .entry))) start [] (now (links .entry))) (now (out .entry)) ⌝ }
-{
-    let mut at = start;
-    let mut picks: usize = 0;
-    while at < bytes.len() {
-        let Command::Later(item) = commands::next(bytes, at, n, limit, picks, links) else {
-            return;
-        };
-        match item {
-            Item::Link(from, to, _) => {
-                flip(links, from, to);
-                at += 3;
-            }
-            Item::Pick => {
-                put(out, picks, n, links);
-                picks += 1;
-                at += 1;
-            }
-            Item::End => {
-                return;
-            }
-        }
-    }
-}
-
-// ---- the calls
-
-// Checks the recording that starts at a place, up to its 45.
-fn examine(bytes: &[u8], start: usize, limit: usize, room: usize) -> Part
-    ensures { λ r. ⌜ r ≡ partOf (recordingAt limit room (now (bytes .entry)) start) ⌝ }
-{
-    let head = commands::head_at(bytes, start, limit, room);
+    let head = commands::head_at(bytes, start, limit, out.len());
     let Command::Boards(n) = head else {
         return Part::Refused(refusal_in(head));
     };
     let mut links = lists::no_words();
-    scan(bytes, start + 2, n, limit, &mut links[0..n])
+    go_over_commands(bytes, start + 2, n, limit, &mut links[0..n], out, writes)
 }
 
-// Writes the picks of the recording at a place, which `examine` has found whole.
-fn write(bytes: &[u8], start: usize, n: usize, limit: usize, out: &mut [u32])
-    requires { ⌜ (start + 2 ≤ length (now bytes)) × (n ≤ 32) × (limit ≤ 4096) × (limit * n ≤ length (now out)) × (isEnded (body limit (now bytes) start n) ≡ true) ⌝ }
-    ensures { λ _. ⌜ now (out .exit) ≡ stored (body limit (now (bytes .entry)) start n) (now (out .entry)) ⌝ }
-{
-    let mut links = lists::no_words();
-    store(bytes, start + 2, n, limit, &mut links[0..n], out);
-}
+// ---- the calls
 
 // Reads the recording that starts at a place, and says where it ends; bytes may follow its 45.
 pub fn read_at(bytes: &[u8], start: usize, limit: usize, out: &mut [u32]) -> Part
-    ensures { λ r. ⌜ (partSays r ≡ readAtSays limit (now (bytes .entry)) start (now (out .entry))) × (now (out .exit) ≡ readAtLeaves limit (now (bytes .entry)) start (now (out .entry))) ⌝ }
+    ensures { λ r. ⌜ (partSays r ≡ readAtSays limit (now (bytes .entry)) start (now (out .entry)))
+        × (now (out .exit) ≡ readAtLeaves limit (now (bytes .entry)) start (now (out .entry))) ⌝ }
 {
-    match examine(bytes, start, limit, out.len()) {
-        Part::Ended { boards, picks, end } => {
-            write(bytes, start, boards, limit, out);
-            Part::Ended {
-                boards: boards,
-                picks: picks,
-                end: end,
-            }
-        }
+    match go_over(bytes, start, limit, out, false) {
+        Part::Ended {
+            boards: _,
+            picks: _,
+            end: _,
+        } => go_over(bytes, start, limit, out, true),
         Part::Refused(r) => Part::Refused(r),
     }
 }
 
 // Reads a file: n and the number of picks, with the words of pick p from output word (p - 1) * n on; or why not, and no word changed.
 pub fn read(bytes: &[u8], limit: usize, out: &mut [u32]) -> Reading
-    ensures { λ r. ⌜ (readingSays r ≡ readSays limit (now (bytes .entry)) (now (out .entry))) × (now (out .exit) ≡ readLeaves limit (now (bytes .entry)) (now (out .entry))) ⌝ }
+    ensures { λ r. ⌜ (readingSays r ≡ readSays limit (now (bytes .entry)) (now (out .entry)))
+        × (now (out .exit) ≡ readLeaves limit (now (bytes .entry)) (now (out .entry))) ⌝ }
 {
-    match examine(bytes, 0, limit, out.len()) {
+    match go_over(bytes, 0, limit, out, false) {
         Part::Ended { boards, picks, end } => {
             if end < bytes.len() {
                 return Reading::Refused(Refusal::Trailing);
             }
-            write(bytes, 0, boards, limit, out);
+            go_over(bytes, 0, limit, out, true);
             Reading::Read {
                 boards: boards,
                 picks: picks,

@@ -41,7 +41,8 @@ some-bit : (m x : ℕ) → x < 2 ^ m → x ≢ 0 → (v : ℕ) × T (bit x v)
 some-bit zero x h ne = absurd (ne (omega arith))
 some-bit (suc m) x h ne =
     ⊎-elim (λ (e : x % 2 ≡ 1). (0, tr (sym (bit-zero x)) (eq-refl e)))
-    (λ (e : x % 2 ≢ 1). let q = some-bit m (x / 2) (omega arith) (λ z. ne (omega arith)) in (suc (q .0), tr (sym (bit-suc x (q .0))) (q .1))) (eq-or (x % 2) 1)
+    (λ (e : x % 2 ≢ 1). let q = some-bit m (x / 2) (omega arith) (λ z. ne (omega arith)) in (suc (q .0), tr (sym (bit-suc x (q .0))) (q .1)))
+    (eq-or (x % 2) 1)
 
 pub below-pow : (x : ℕ) → x < 2 ^ x
 below-pow zero = omega arith
@@ -54,7 +55,8 @@ meets row s = not (eqb (bitAnd row s) 0)
 meets-in : (row s v : ℕ) → T (bit row v) → T (bit s v) → T (meets row s)
 unfolding meets
 meets-in row s v a b =
-    not-in (eqb (bitAnd row s) 0) (λ m. tr (ap (λ (x : ℕ). bit x v) (eqb→eq (bitAnd row s) 0 m) ∙ bit-high 0 v (pow-pos v)) (tr (sym (bit-and row s v)) (and-both (bit row v) (bit s v) a b)))
+    not-in (eqb (bitAnd row s) 0) (λ m. tr (ap (λ (x : ℕ). bit x v) (eqb→eq (bitAnd row s) 0 m) ∙ bit-high 0 v (pow-pos v))
+    (tr (sym (bit-and row s v)) (and-both (bit row v) (bit s v) a b)))
 
 meets-out : (row s : ℕ) → T (meets row s) → (v : ℕ) × T (bit row v) × T (bit s v)
 unfolding meets
@@ -66,7 +68,8 @@ meets-out row s m =
 collect-step : (t : List ℕ) (s k u : ℕ) → bit (collect t s (suc k)) u ≡ bit (collect t s k) u || (meets (getD t k 0) s && eqb k u)
 unfolding collect leading meets
 collect-step t s k u =
-    bit-or x (kept (meets row s) (2 ^ k)) u ∙ ap (λ (b : Bool). bit x u || b) (bit-kept (meets row s) (2 ^ k) u ∙ ap (λ (b : Bool). meets row s && b) (bit-one k u))
+    bit-or x (kept (meets row s) (2 ^ k)) u ∙ ap (λ (b : Bool). bit x u || b) (bit-kept (meets row s) (2 ^ k) u
+    ∙ ap (λ (b : Bool). meets row s && b) (bit-one k u))
   where
     x : ℕ
     x = collect t s k
@@ -101,7 +104,8 @@ to-next : {n w v : ℕ} {t : List ℕ} → w < n → T (link t w v) → Found tr
 to-next {w = w} {t = t} h l (inl e) = inr (h, (1, one (subst (λ (x : ℕ). T (link t w x)) (sym e) l)))
 to-next h l (inr p) = inr (h, (suc (p .1 .0), more l (p .0) (p .1 .1)))
 
-collect-to : (n : ℕ) (t : List ℕ) (s k : ℕ) → k ≤ n → ((u : ℕ) → T (bit s u) → Found true n t u) → (u : ℕ) → T (bit (collect t s k) u) → Found true n t u
+collect-to : (n : ℕ) (t : List ℕ) (s k : ℕ) → k ≤ n → ((u : ℕ) → T (bit s u) → Found true n t u) → (u : ℕ)
+    → T (bit (collect t s k) u) → Found true n t u
 unfolding collect link
 collect-to n t s zero h f u m = f u m
 collect-to n t s (suc k) h f u m =
@@ -177,13 +181,16 @@ pub gone-below : {n s rest : ℕ} {t : List ℕ} (w : ℕ) → Gone n t s rest �
 gone-below {s = s} {rest = rest} w m b = bit-below rest (m .few) (and-r (bit s w) (bit rest w) (tr (bit-and s rest w) b))
 
 -- the links of board w are followed
-pub gone-next : {n s rest : ℕ} {t : List ℕ} (w : ℕ) → n ≤ 32 → Gone n t s rest → T (bit (bitAnd s rest) w) → Gone n t (bitOr s (getD t w 0)) (without rest w)
+pub gone-next : {n s rest : ℕ} {t : List ℕ} (w : ℕ) → n ≤ 32 → Gone n t s rest → T (bit (bitAnd s rest) w)
+    → Gone n t (bitOr s (getD t w 0)) (without rest w)
 unfolding link
 gone-next {n} {s} {rest} {t} w n32 m b = record {
   first = grow 0 (m .first);
-  sound = λ v k. ⊎-elim (m .sound v) (λ (l : T (bit (getD t w 0) v)). from-next below (m .sound w (both .0)) l) (or-cases (bit s v) (bit (getD t w 0) v) (tr (bit-or s (getD t w 0) v) k));
+  sound = λ v k. ⊎-elim (m .sound v) (λ (l : T (bit (getD t w 0) v)). from-next below (m .sound w (both .0)) l) (or-cases (bit s v) (bit (getD t w 0) v)
+      (tr (bit-or s (getD t w 0) v) k));
   few = without-lt n rest w (m .few);
-  done = λ x v h k l. ⊎-elim (λ (e : w ≡ x). tr (sym (bit-or s (getD t w 0) v)) (or-r (bit s v) (bit (getD t w 0) v) (subst (λ (y : ℕ). T (bit (getD t y 0) v)) (sym e) l)))
+  done = λ x v h k l. ⊎-elim (λ (e : w ≡ x). tr (sym (bit-or s (getD t w 0) v)) (or-r (bit s v) (bit (getD t w 0) v)
+      (subst (λ (y : ℕ). T (bit (getD t y 0) v)) (sym e) l)))
       (λ (ne : w ≢ x). grow v (m .done x v h (still x h ne k) l)) (eq-or w x);
 }
   where
@@ -213,7 +220,8 @@ pub gone-end : {n s rest : ℕ} {t : List ℕ} → Gone n t s rest → bitAnd s 
 gone-end {n} {s} {rest} {t} m e = record { first = m .first; sound = m .sound; far = λ c v h l p. go (omega arith) (m .first) p }
   where
     left : (w : ℕ) → T (bit s w) → T (not (bit rest w))
-    left w k = not-in (bit rest w) (λ r. tr (ap (λ (x : ℕ). bit x w) e ∙ bit-high 0 w (pow-pos w)) (tr (sym (bit-and s rest w)) (and-both (bit s w) (bit rest w) k r)))
+    left w k = not-in (bit rest w) (λ r. tr (ap (λ (x : ℕ). bit x w) e
+        ∙ bit-high 0 w (pow-pos w)) (tr (sym (bit-and s rest w)) (and-both (bit s w) (bit rest w) k r)))
 
     go : {c u v : ℕ} → u < n → T (bit s u) → Way t n c u v → T (bit s v)
     go {u = u} {v = v} h k (one l) = m .done u v h (left u k) l
@@ -226,12 +234,14 @@ pair-in : (n : ℕ) (t : List ℕ) (u v : ℕ) → n ≤ 32 → u < n → v < n 
 unfolding pairFull
 pair-in n t u v n32 hu hv p =
     ⊎-elim (λ (e : u ≡ v). or-l (eqb u v) (link (within n 31 t) u v) (eq-refl e))
-    (λ (ne : u ≢ v). let hv32 = lt-of-lt-of-le hv n32 in or-r (eqb u v) (link (within n 31 t) u v) (within-way n 31 t n32 u v hu hv32 .1 (ne, way-short n32 hu hv32 ne (p .1)))) (eq-or u v)
+    (λ (ne : u ≢ v). let hv32 = lt-of-lt-of-le hv n32 in or-r (eqb u v) (link (within n 31 t) u v)
+    (within-way n 31 t n32 u v hu hv32 .1 (ne, way-short n32 hu hv32 ne (p .1)))) (eq-or u v)
 
 pub pair-out : (n : ℕ) (t : List ℕ) (u v : ℕ) → n ≤ 32 → u < n → v < n → T (pairFull (within n 31 t) u v) → (u ≡ v) ⊎ Short n 31 t u v
 unfolding pairFull
 pair-out n t u v n32 hu hv m =
-    ⊎-elim (λ (e : T (eqb u v)). inl (eqb→eq u v e)) (λ (l : T (link (within n 31 t) u v)). inr (within-way n 31 t n32 u v hu (lt-of-lt-of-le hv n32) .0 l .1))
+    ⊎-elim (λ (e : T (eqb u v)). inl (eqb→eq u v e))
+    (λ (l : T (link (within n 31 t) u v)). inr (within-way n 31 t n32 u v hu (lt-of-lt-of-le hv n32) .0 l .1))
     (or-cases (eqb u v) (link (within n 31 t) u v) m)
 
 pair-same : (t : List ℕ) {u v : ℕ} → u ≡ v → T (pairFull t u v)
@@ -245,7 +255,8 @@ up true n t v n32 h r =
     ⊎-elim (λ (e : _≡_ {A = ℕ} 0 v). pair-same (within n 31 t) (sym e)) (λ (p : (v < n) × Led t n v 0). pair-in n t v 0 n32 h (omega arith) (p .1)) r
 
 -- what is marked is board 0, or at most 31 links away
-down : (back : Bool) (n : ℕ) (t : List ℕ) (v : ℕ) → n ≤ 32 → v < n → T (sidePair back (within n 31 t) v) → (_≡_ {A = ℕ} 0 v) ⊎ ((c : ℕ) × (c ≤ 31) × Away back n t c v)
+down : (back : Bool) (n : ℕ) (t : List ℕ) (v : ℕ) → n ≤ 32 → v < n → T (sidePair back (within n 31 t) v)
+    → (_≡_ {A = ℕ} 0 v) ⊎ ((c : ℕ) × (c ≤ 31) × Away back n t c v)
 down false n t v n32 h m = pair-out n t 0 v n32 (omega arith) h m
 down true n t v n32 h m = ⊎-elim (λ (e : v ≡ 0). inl (sym e)) (λ (p : Short n 31 t v 0). inr p) (pair-out n t v 0 n32 h (omega arith) m)
 
@@ -274,7 +285,8 @@ full-first n t n32 =
     (every-in (sidePair false c) n (λ v h. every-out (pairFull c 0) n (every-out (rowFull n c) n m 0 (omega arith)) v h))
     (every-in (sidePair true c) n (λ u h. every-out (pairFull c u) n (every-out (rowFull n c) n m u h) 0 (omega arith))))
     (λ m. every-in (rowFull n c) n (λ u hu. every-in (pairFull c u) n (λ v hv. both u v hu hv
-    (every-out (sidePair true c) n (and-r (sideFull false n c) (sideFull true n c) m) u hu) (every-out (sidePair false c) n (and-l (sideFull false n c) (sideFull true n c) m) v hv))))
+    (every-out (sidePair true c) n (and-r (sideFull false n c) (sideFull true n c) m) u hu) (every-out (sidePair false c) n (and-l (sideFull false n c)
+    (sideFull true n c) m) v hv))))
   where
     c : List ℕ
     c = within n 31 t

@@ -40,7 +40,8 @@ marks-ext f g (suc n) h = ap₂ (λ (x y : ℕ). bitOr x (markOf y n)) (marks-ex
 pub any-lent : (n u : ℕ) (half : List ℕ) → anyOf (λ v. getD (take (u * n + n - u * n) (drop (u * n) half)) v 0) n ≡ anyOf (cell n half u) n
 any-lent n u half = any-ext _ _ n (row-cell n u half)
 
-pub set-lent : (n u some : ℕ) (half : List ℕ) → setOf (λ v. getD (take (u * n + n - u * n) (drop (u * n) half)) v 0) n some u ≡ setOf (cell n half u) n some u
+pub set-lent : (n u some : ℕ) (half : List ℕ) → setOf (λ v. getD (take (u * n + n - u * n) (drop (u * n) half)) v 0) n some u
+    ≡ setOf (cell n half u) n some u
 unfolding setOf
 set-lent n u some half = ap (λ (x : ℕ). bitAnd (bitOr x (2 ^ u)) some) (marks-ext _ _ n (row-cell n u half))
 

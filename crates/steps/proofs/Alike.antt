@@ -4,7 +4,7 @@ use Prim.Native.Nat.{ℕ, zero, suc, _+_, _-_, _*_, _≤_, _<_}
 use native.Mathlib.Omega.{arith}
 use mathlib.Core.Path.{_≡_, refl, sym, ap, ap₂, _∙_, subst}
 use mathlib.Core.Logic.{_≢_, ⊎-elim}
-use mathlib.Core.Bool.{Bool, true, false, _&&_, not}
+use mathlib.Core.Bool.{Bool, true, false, _&&_, not, cond}
 use mathlib.Core.List.{List}
 use lib.ListN.{length}
 use lib.Dec.{T, eqb, ltb, ltb→lt}
@@ -13,17 +13,18 @@ use Rattle.model.specs.Journey.{val}
 use Rattle.model.proofs.Logic.{eq-or}
 use Rattle.lists.specs.Tab.{zeros}
 use Rattle.lists.proofs.Tab.{length-zeros}
-use Rattle.measures.specs.Kit.{Kit, either, widthOf}
+use Rattle.measures.specs.Kit.{Kit, widthOf}
 use Rattle.area.specs.Parts.{part, putPart, composeAt, copyAt, zeroAt, ownAt}
 use Rattle.area.proofs.Laws.{put-length, put-same, put-other, length-part, Wide, kit-wide, own-wide}
 use Rattle.place.specs.declared.Place.{Place}
 use Rattle.place.proofs.Laws.{and-left, and-right, and-both}
-use Rattle.place.specs.Places.{pickTaken, startMoved, turned, charged, tested}
+use Rattle.place.specs.Places.{picksTaken, startMoved, boundaryMoved, charged, tested}
 use Rattle.steps.specs.Walk.{State, state, kitOf, ladder, rebuilt, more, joinedArea, joined, far, extendedBy, extended, written, entered}
 use Rattle.steps.specs.Walk.{onLeft, onRight, windowArea, windowed, judged, tried, cleared, minStep}
 use Rattle.steps.specs.Walk.{raisedBy, raised, again, climb, climbed, ended, maxStep, stepped}
 use Rattle.steps.specs.Fit.{Able, Fit, Takes}
 use Rattle.steps.specs.Alike.{Alike, finished}
+use Rattle.steps.proofs.Fit.{limit-of}
 use Rattle.steps.proofs.Grown.{entered-grown, tried-grown, raised-grown, again-grown}
 
 -- Alike for as long as the walk reads its area: kept from pick to pick. After the end of measure 1 nothing is asked, since nothing is read.
@@ -32,9 +33,9 @@ StillAlike p a b = finished p ≡ false → Alike p a b
 
 -- the table of the window s to m, read off the ladders: what a test writes to part limit + 2
 unfoldable pub windowTable : Kit → Bool → Bool → Place → List ℕ → List ℕ
-windowTable K true true p a = K .join (part (K .width) a (p .start .0)) (part (K .width) a (p .limit + 1))
-windowTable K true false p a = part (K .width) a (p .start .0)
-windowTable K false y p a = part (K .width) a (p .limit + 1)
+windowTable K true true p a = K .join (part (K .width) a (p .window .start .0)) (part (K .width) a (p .settings .limit + 1))
+windowTable K true false p a = part (K .width) a (p .window .start .0)
+windowTable K false y p a = part (K .width) a (p .settings .limit + 1)
 
 -- from two areas the step f comes to one place, and to areas that are alike there
 abbrev pub Agrees : (State → State) → Place → List ℕ → List ℕ → Type 0
@@ -61,7 +62,8 @@ free : {limit d : ℕ} → 1 ≤ d → d ≤ limit + 2 → Free limit d
 free l h = record { low = l; high = omega arith; apart = λ e. omega arith }
 
 -- One table put as part d of two areas: part j is the same in both where it is part d, or was the same.
-put-both : (E N : ℕ) (a b : List ℕ) → N * E ≤ length a → N * E ≤ length b → (d : ℕ) → 1 ≤ d → d ≤ N → (t : List ℕ) → length t ≡ E
+put-both : (E N : ℕ) (a b : List ℕ) → N * E ≤ length a → N * E ≤ length b → (d : ℕ) → 1 ≤ d → d ≤ N → (t : List ℕ)
+    → length t ≡ E
     → (j : ℕ) → 1 ≤ j → (j ≢ d → part E a j ≡ part E b j) → part E (putPart E a d t) j ≡ part E (putPart E b d t) j
 put-both E N a b f g d low high t size j h e =
     let same = put-same E N a f d low high t size ∙ sym (put-same E N b g d low high t size) in
@@ -70,7 +72,8 @@ put-both E N a b f g d low high t size j h e =
     (eq-or j d)
 
 -- A table put as part d of both: the parts that are the same are those from before, and part d.
-put-like : {K : Kit} {limit m r : ℕ} {a b : List ℕ} → Same K limit m r a b → (d : ℕ) → Free limit d → (t u : List ℕ) → length t ≡ K .width → t ≡ u
+put-like : {K : Kit} {limit m r : ℕ} {a b : List ℕ} → Same K limit m r a b → (d : ℕ) → Free limit d → (t u : List ℕ)
+    → length t ≡ K .width → t ≡ u
     → (n x : ℕ) → ((i : ℕ) → i ≤ n → i ≢ d → i ≤ m) → (1 ≤ x → limit + 1 ≢ d → 1 ≤ r)
     → Same K limit n x (putPart (K .width) a d t) (putPart (K .width) b d u)
 put-like {K} {limit} {m} {r} {a} {b} s d o t u size e n x f g =
@@ -92,25 +95,30 @@ put-like {K} {limit} {m} {r} {a} {b} s d o t u size e n x f g =
 
 module _ (K : Kit) (wide : Wide K) where
   -- parts i and j, the same in both, composed into part d
-  compose-like : {limit m r : ℕ} {a b : List ℕ} → Same K limit m r a b → (d : ℕ) → Free limit d → (i j : ℕ) → part (K .width) a i ≡ part (K .width) b i
-      → part (K .width) a j ≡ part (K .width) b j → (x : ℕ) → (1 ≤ x → limit + 1 ≢ d → 1 ≤ r) → Same K limit m x (composeAt K a d i j) (composeAt K b d i j)
+  compose-like : {limit m r : ℕ} {a b : List ℕ} → Same K limit m r a b → (d : ℕ) → Free limit d → (i j : ℕ)
+      → part (K .width) a i ≡ part (K .width) b i
+      → part (K .width) a j ≡ part (K .width) b j → (x : ℕ) → (1 ≤ x → limit + 1 ≢ d → 1 ≤ r)
+      → Same K limit m x (composeAt K a d i j) (composeAt K b d i j)
   unfolding composeAt
   compose-like {limit} {m} s d o i j e g x = put-like s d o _ _ (wide _ _) (ap₂ (K .join) e g) m x (λ k l q. l)
 
   -- part i, the same in both, copied to part d
   copy-like : {limit m r : ℕ} {a b : List ℕ} → Same K limit m r a b → (d : ℕ) → Free limit d → (i : ℕ) → 1 ≤ i → i ≤ limit + 4
-      → part (K .width) a i ≡ part (K .width) b i → (x : ℕ) → (1 ≤ x → limit + 1 ≢ d → 1 ≤ r) → Same K limit m x (copyAt K a d i) (copyAt K b d i)
+      → part (K .width) a i ≡ part (K .width) b i → (x : ℕ) → (1 ≤ x → limit + 1 ≢ d → 1 ≤ r)
+      → Same K limit m x (copyAt K a d i) (copyAt K b d i)
   unfolding copyAt
   copy-like {limit} {m} {r} {a} s d o i l h e x = put-like s d o _ _ (length-part (K .width) (limit + 4) a i (s .first) l h) e m x (λ k z q. z)
 
   -- part d set to zero
-  zero-like : {limit m r : ℕ} {a b : List ℕ} → Same K limit m r a b → (d : ℕ) → Free limit d → (x : ℕ) → (1 ≤ x → limit + 1 ≢ d → 1 ≤ r)
+  zero-like : {limit m r : ℕ} {a b : List ℕ} → Same K limit m r a b → (d : ℕ) → Free limit d → (x : ℕ) →
+      (1 ≤ x → limit + 1 ≢ d → 1 ≤ r)
       → Same K limit m x (zeroAt K a d) (zeroAt K b d)
   unfolding zeroAt
   zero-like {limit} {m} s d o x = put-like s d o _ _ (length-zeros (K .width)) refl m x (λ k l q. l)
 
   -- the left ladder over parts that are the same
-  ladder-like : {limit m r : ℕ} {a b : List ℕ} → Same K limit m r a b → m ≤ limit → (k : ℕ) → k ≤ m - 1 → Same K limit m r (ladder K a m k) (ladder K b m k)
+  ladder-like : {limit m r : ℕ} {a b : List ℕ} → Same K limit m r a b → m ≤ limit → (k : ℕ) → k ≤ m - 1
+      → Same K limit m r (ladder K a m k) (ladder K b m k)
   unfolding ladder
   ladder-like s top zero h = s
   ladder-like {limit} {m} {r} s top (suc k) h =
@@ -126,75 +134,83 @@ module _ (K : Kit) (wide : Wide K) where
       zero-like (ladder-like x top (m - s) (omega arith)) (limit + 1) (free (omega arith) (omega arith)) m (λ l e. absurd (e refl))
 
   -- pick m joins the right ladder, which is the same in both where it is read
-  joined-like : (x : Bool) (p : Place) (r : ℕ) {a b : List ℕ} → Same K (p .limit) (p .taken .0) r a b → 1 ≤ p .taken .0 → p .taken .0 ≤ p .limit
-      → (T x → 1 ≤ r) → Same K (p .limit) (p .taken .0) (p .taken .0) (joinedArea K x p a) (joinedArea K x p b)
+  joined-like : (x : Bool) (p : Place) (r : ℕ) {a b : List ℕ} → Same K (p .settings .limit) (p .window .taken .0) r a b → 1 ≤ p .window .taken .0
+      → p .window .taken .0 ≤ p .settings .limit
+      → (T x → 1 ≤ r) → Same K (p .settings .limit) (p .window .taken .0) (p .window .taken .0) (joinedArea K x p a) (joinedArea K x p b)
   unfolding joinedArea
   joined-like true p r s low top some =
-      let m = p .taken .0 in
-      compose-like s (p .limit + 1) (free (omega arith) (omega arith)) (p .limit + 1) m (s .right (some tt)) (s .picks m low (omega arith)) m
+      let m = p .window .taken .0 in
+      compose-like s (p .settings .limit + 1) (free (omega arith) (omega arith)) (p .settings .limit + 1) m (s .right (some tt))
+      (s .picks m low (omega arith)) m
       (λ l e. absurd (e refl))
   joined-like false p r s low top some =
-      let m = p .taken .0 in
-      copy-like s (p .limit + 1) (free (omega arith) (omega arith)) m low (omega arith) (s .picks m low (omega arith)) m (λ l e. absurd (e refl))
+      let m = p .window .taken .0 in
+      copy-like s (p .settings .limit + 1) (free (omega arith) (omega arith)) m low (omega arith) (s .picks m low (omega arith)) m (λ l e. absurd (e refl))
 
   -- ---- the window
 
   -- a window is written to its part and to no other
-  window-put : (x y : Bool) (p : Place) (a : List ℕ) → windowArea K x y p a ≡ putPart (K .width) a (p .limit + 2) (windowTable K x y p a)
+  window-put : (x y : Bool) (p : Place) (a : List ℕ) → windowArea K x y p a ≡ putPart (K .width) a (p .settings .limit + 2) (windowTable K x y p a)
   unfolding windowArea windowTable composeAt copyAt
   window-put true true p a = refl
   window-put true false p a = refl
   window-put false y p a = refl
 
   -- its table has the words of the kit
-  window-wide : (x y : Bool) (p : Place) (a : List ℕ) → (p .limit + 4) * K .width ≤ length a → 1 ≤ p .start .0 → p .start .0 ≤ p .limit
+  window-wide : (x y : Bool) (p : Place) (a : List ℕ) → (p .settings .limit + 4) * K .width ≤ length a → 1 ≤ p .window .start .0
+      → p .window .start .0 ≤ p .settings .limit
       → length (windowTable K x y p a) ≡ K .width
   unfolding windowTable
   window-wide true true p a room low high = wide _ _
-  window-wide true false p a room low high = length-part (K .width) (p .limit + 4) a (p .start .0) room low (omega arith)
-  window-wide false y p a room low high = length-part (K .width) (p .limit + 4) a (p .limit + 1) room (omega arith) (omega arith)
+  window-wide true false p a room low high = length-part (K .width) (p .settings .limit + 4) a (p .window .start .0) room low (omega arith)
+  window-wide false y p a room low high = length-part (K .width) (p .settings .limit + 4) a (p .settings .limit + 1) room (omega arith) (omega arith)
 
   -- and is the same from areas that are the same where it is read
-  window-like : (x y : Bool) (p : Place) {m r : ℕ} {a b : List ℕ} → Same K (p .limit) m r a b → 1 ≤ r → 1 ≤ p .start .0 → p .start .0 ≤ m
+  window-like : (x y : Bool) (p : Place) {m r : ℕ} {a b : List ℕ} → Same K (p .settings .limit) m r a b → 1 ≤ r → 1 ≤ p .window .start .0
+      → p .window .start .0 ≤ m
       → windowTable K x y p a ≡ windowTable K x y p b
   unfolding windowTable
-  window-like true true p s some low high = ap₂ (K .join) (s .picks (p .start .0) low high) (s .right some)
-  window-like true false p s some low high = s .picks (p .start .0) low high
+  window-like true true p s some low high = ap₂ (K .join) (s .picks (p .window .start .0) low high) (s .right some)
+  window-like true false p s some low high = s .picks (p .window .start .0) low high
   window-like false y p s some low high = s .right some
 
   -- the area after a test
-  tried-like : (x y : Bool) (p : Place) {a b : List ℕ} → Same K (p .limit) (p .taken .0) (p .taken .0) a b → 1 ≤ p .start .0 → p .start .0 ≤ p .taken .0
-      → p .taken .0 ≤ p .limit → Same K (p .limit) (p .taken .0) (p .taken .0) (windowArea K x y p a) (windowArea K x y p b)
+  tried-like : (x y : Bool) (p : Place) {a b : List ℕ} → Same K (p .settings .limit) (p .window .taken .0) (p .window .taken .0) a b
+      → 1 ≤ p .window .start .0 → p .window .start .0 ≤ p .window .taken .0
+      → p .window .taken .0 ≤ p .settings .limit → Same K (p .settings .limit) (p .window .taken .0) (p .window .taken .0) (windowArea K x y p a)
+      (windowArea K x y p b)
   tried-like x y p {a} {b} s low high top =
-      let m = p .taken .0 in
+      let m = p .window .taken .0 in
       rw (window-put x y p a, window-put x y p b)
-      (put-like s (p .limit + 2) (free (omega arith) (omega arith)) _ _ (window-wide x y p a (s .first) low (omega arith))
+      (put-like s (p .settings .limit + 2) (free (omega arith) (omega arith)) _ _ (window-wide x y p a (s .first) low (omega arith))
       (window-like x y p s (omega arith) low high) m m (λ i l e. l) (λ l e. l))
 
   -- the place after a test, from the footprint and the ladders
-  tried-place : (p : Place) (a : List ℕ) → (p .limit + 4) * K .width ≤ length a → 1 ≤ p .start .0 → p .start .0 ≤ p .limit
+  tried-place : (p : Place) (a : List ℕ) → (p .settings .limit + 4) * K .width ≤ length a → 1 ≤ p .window .start .0
+      → p .window .start .0 ≤ p .settings .limit
       → tried K (state p a) .place
-      ≡ tested (charged p (val (onLeft p && onRight p))) (K .pass (part (K .width) a (p .limit + 3)) (windowTable K (onLeft p) (onRight p) p a))
+      ≡ tested (charged p (val (onLeft p && onRight p))) (K .pass (part (K .width) a (p .settings .limit + 3)) (windowTable K (onLeft p) (onRight p) p a))
   unfolding tried judged windowed charged
   tried-place p a room low high =
       let E = K .width in
-      let N = p .limit + 4 in
-      let d = p .limit + 2 in
+      let N = p .settings .limit + 4 in
+      let d = p .settings .limit + 2 in
       let x = onLeft p in
       let y = onRight p in
       let t = windowTable K x y p a in
       let size = window-wide x y p a room low high in
-      let other = put-other E N a room d (omega arith) (omega arith) t size (p .limit + 3) (omega arith) (λ e. omega arith) in
+      let other = put-other E N a room d (omega arith) (omega arith) t size (p .settings .limit + 3) (omega arith) (λ e. omega arith) in
       let same = put-same E N a room d (omega arith) (omega arith) t size in
       ap (tested (charged p (val (x && y))))
-      (ap₂ (K .pass) (ap (λ (b : List ℕ). part E b (p .limit + 3)) (window-put x y p a) ∙ other) (ap (λ (b : List ℕ). part E b d) (window-put x y p a) ∙ same))
+      (ap₂ (K .pass) (ap (λ (b : List ℕ). part E b (p .settings .limit + 3)) (window-put x y p a)
+      ∙ other) (ap (λ (b : List ℕ). part E b d) (window-put x y p a) ∙ same))
 
 -- ---- states of one place
 
 -- at the place p, whose tables have the words of the kit
 record Level (K : Kit) (p : Place) (a b : List ℕ) : Type 0 where
-  width : K .width ≡ widthOf (p .measure) (p .boards)
-  area : Same K (p .limit) (p .taken .0) (p .taken .0) a b
+  width : K .width ≡ kitOf (p .settings) .width
+  area : Same K (p .settings .limit) (p .window .taken .0) (p .window .taken .0) a b
 
 -- two states at the same place
 record Twin (K : Kit) (st q : State) : Type 0 where
@@ -206,31 +222,35 @@ onward : (K : Kit) (f : State → State) {st q : State} → Twin K st q → Twin
 onward K f {st} {q} t g = subst (λ (z : Place). Twin K (f st) (f (state z (q .area)))) (t .place) g
 
 -- one of two steps, by a test that is the same for both
-choice : {K : Kit} (x : Bool) {st q su r : State} → Twin K st q → Twin K su r → Twin K (either x st su) (either x q r)
+choice : {K : Kit} (x : Bool) {st q su r : State} → Twin K st q → Twin K su r → Twin K (cond x st su) (cond x q r)
 choice true t u = t
 choice false t u = u
 
 module _ (K : Kit) (wide : Wide K) where
   -- the ladders take in pick m, which is written; the right ladder is known where it held picks before
-  extended-twin : (x : Bool) (p : Place) {a b : List ℕ} (r : ℕ) → K .width ≡ widthOf (p .measure) (p .boards) → Same K (p .limit) (p .taken .0) r a b
-      → 1 ≤ p .start .0 → 1 ≤ p .taken .0 → p .taken .0 ≤ p .limit → (T (more p) → 1 ≤ r) → Twin K (extendedBy K x (state p a)) (extendedBy K x (state p b))
-  unfolding extendedBy rebuilt joined charged turned
-  extended-twin true p r e s low some top h = record { place = refl; level = record { width = e; area = rebuilt-like K wide s top (p .start .0) low } }
+  extended-twin : (x : Bool) (p : Place) {a b : List ℕ} (r : ℕ) → K .width ≡ kitOf (p .settings) .width
+      → Same K (p .settings .limit) (p .window .taken .0) r a b
+      → 1 ≤ p .window .start .0 → 1 ≤ p .window .taken .0 → p .window .taken .0 ≤ p .settings .limit → (T (more p) → 1 ≤ r)
+      → Twin K (extendedBy K x (state p a)) (extendedBy K x (state p b))
+  unfolding extendedBy rebuilt joined charged boundaryMoved
+  extended-twin true p r e s low some top h = record { place = refl; level = record { width = e; area = rebuilt-like K wide s top (p .window .start .0) low } }
   extended-twin false p r e s low some top h = record { place = refl; level = record { width = e; area = joined-like K wide (more p) p r s some top h } }
 
   -- a pick taken, its part and the ladders
-  entered-twin : (k : ℕ) (w : List ℕ) (p : Place) {a b : List ℕ} → Level K p a b → 1 ≤ p .start .0 → p .taken .0 + 1 ≤ p .limit
-      → length (K .own (p .taken .0 + 1) w) ≡ K .width → Twin K (entered K k w (state p a)) (entered K k w (state p b))
-  unfolding entered extended written startMoved pickTaken ownAt
+  entered-twin : (k : ℕ) (w : List ℕ) (p : Place) {a b : List ℕ} → Level K p a b → 1 ≤ p .window .start .0
+      → p .window .taken .0 + 1 ≤ p .settings .limit
+      → length (K .own (p .window .taken .0 + 1) w) ≡ K .width → Twin K (entered K k w (state p a)) (entered K k w (state p b))
+  unfolding entered extended written startMoved picksTaken ownAt
   entered-twin k w p {a} {b} s low top size =
-      let m = p .taken .0 in
+      let m = p .window .taken .0 in
       let t = K .own (m + 1) w in
-      extended-twin (ltb (p .boundary .0 + 1) (p .start .0 + k)) (startMoved (pickTaken p) k) m (s .width)
+      extended-twin (ltb (p .window .boundary .0 + 1) (p .window .start .0 + k)) (startMoved (picksTaken p 1) k) m (s .width)
       (put-like (s .area) (m + 1) (free (omega arith) (omega arith)) t t size refl (m + 1) m (λ i l q. omega arith) (λ l q. l))
-      (omega arith) (omega arith) top (λ h. let l = ltb→lt (p .boundary .0 + 1) (m + 1) h in omega arith)
+      (omega arith) (omega arith) top (λ h. let l = ltb→lt (p .window .boundary .0 + 1) (m + 1) h in omega arith)
 
   -- one test
-  tried-twin : (p : Place) {a b : List ℕ} → Level K p a b → 1 ≤ p .start .0 → p .start .0 ≤ p .taken .0 → p .taken .0 ≤ p .limit
+  tried-twin : (p : Place) {a b : List ℕ} → Level K p a b → 1 ≤ p .window .start .0 → p .window .start .0 ≤ p .window .taken .0
+      → p .window .taken .0 ≤ p .settings .limit
       → Twin K (tried K (state p a)) (tried K (state p b))
   unfolding tried judged windowed charged tested
   tried-twin p {a} {b} s low high top =
@@ -244,20 +264,21 @@ module _ (K : Kit) (wide : Wide K) where
       }
 
   -- the left ladder built at a rise, or not
-  raised-by : (x : Bool) (p : Place) {a b : List ℕ} → Level K p a b → p .taken .0 ≤ p .limit
+  raised-by : (x : Bool) (p : Place) {a b : List ℕ} → Level K p a b → p .window .taken .0 ≤ p .settings .limit
       → Twin K (raisedBy K x (state (startMoved p 1) a)) (raisedBy K x (state (startMoved p 1) b))
-  unfolding raisedBy rebuilt charged turned startMoved
+  unfolding raisedBy rebuilt charged boundaryMoved startMoved
   raised-by true p s top =
-      record { place = refl; level = record { width = s .width; area = rebuilt-like K wide (s .area) top (p .start .0 + 1) (omega arith) } }
+      record { place = refl; level = record { width = s .width; area = rebuilt-like K wide (s .area) top (p .window .start .0 + 1) (omega arith) } }
   raised-by false p s top = record { place = refl; level = record { width = s .width; area = s .area } }
 
   -- a rise
-  raised-twin : (p : Place) {a b : List ℕ} → Level K p a b → p .taken .0 ≤ p .limit → Twin K (raised K (state p a)) (raised K (state p b))
+  raised-twin : (p : Place) {a b : List ℕ} → Level K p a b → p .window .taken .0 ≤ p .settings .limit
+      → Twin K (raised K (state p a)) (raised K (state p b))
   unfolding raised
   raised-twin p s top = raised-by (far (startMoved p 1)) p s top
 
   -- and its test
-  again-twin : (p : Place) {a b : List ℕ} → Level K p a b → p .start .0 < p .taken .0 → p .taken .0 ≤ p .limit
+  again-twin : (p : Place) {a b : List ℕ} → Level K p a b → p .window .start .0 < p .window .taken .0 → p .window .taken .0 ≤ p .settings .limit
       → Twin K (again K (state p a)) (again K (state p b))
   unfolding again
   again-twin p {a} s high top =
@@ -265,11 +286,12 @@ module _ (K : Kit) (wide : Wide K) where
       let g = raised-grown K (state p a) top in
       let gs = g .start in
       let gm = g .taken in
-      let gl = g .limit in
+      let gl = limit-of (g .settings) in
       onward K (tried K) t (tried-twin (raised K (state p a) .place) (t .level) (omega arith) (omega arith) (omega arith))
 
   -- the tests of one pick
-  climb-twin : (k : ℕ) (p : Place) {a b : List ℕ} → Level K p a b → p .start .0 + k ≤ p .taken .0 → p .taken .0 ≤ p .limit
+  climb-twin : (k : ℕ) (p : Place) {a b : List ℕ} → Level K p a b → p .window .start .0 + k ≤ p .window .taken .0
+      → p .window .taken .0 ≤ p .settings .limit
       → Twin K (climb K k (state p a)) (climb K k (state p b))
   unfolding climb
   climb-twin zero p s high top = record { place = refl; level = s }
@@ -278,15 +300,15 @@ module _ (K : Kit) (wide : Wide K) where
       let g = again-grown K (state p a) top in
       let gs = g .start in
       let gm = g .taken in
-      let gl = g .limit in
-      choice (p .passed) (record { place = refl; level = s })
+      let gl = limit-of (g .settings) in
+      choice (p .marks .passed) (record { place = refl; level = s })
       (onward K (climb K k) t (climb-twin k (again K (state p a) .place) (t .level) (omega arith) (omega arith)))
 
   -- all of them that are left
-  climbed-twin : (p : Place) {a b : List ℕ} → Level K p a b → p .start .0 ≤ p .taken .0 → p .taken .0 ≤ p .limit
+  climbed-twin : (p : Place) {a b : List ℕ} → Level K p a b → p .window .start .0 ≤ p .window .taken .0 → p .window .taken .0 ≤ p .settings .limit
       → Twin K (climbed K (state p a)) (climbed K (state p b))
   unfolding climbed
-  climbed-twin p s high top = climb-twin (p .taken .0 - p .start .0) p s (omega arith) top
+  climbed-twin p s high top = climb-twin (p .window .taken .0 - p .window .start .0) p s (omega arith) top
 
   -- part limit + 4 cleared
   cleared-twin : (p : Place) {a b : List ℕ} → Level K p a b → Twin K (cleared K (state p a)) (cleared K (state p b))
@@ -295,61 +317,68 @@ module _ (K : Kit) (wide : Wide K) where
     place = refl;
     level = record {
       width = s .width;
-      area = zero-like K wide (s .area) (p .limit + 4) (record { low = omega arith; high = omega arith; apart = λ e. omega arith }) (p .taken .0) (λ l e. l);
+      area = zero-like K wide (s .area) (p .settings .limit + 4) (record { low = omega arith; high = omega arith; apart = λ e. omega arith })
+          (p .window .taken .0) (λ l e. l);
     };
   }
 
   -- ---- a pick
 
-  module _ (w : List ℕ) (p : Place) (a b : List ℕ) (s : Level K p a b) (low : 1 ≤ p .start .0) (top : p .taken .0 + 1 ≤ p .limit)
-      (size : length (K .own (p .taken .0 + 1) w) ≡ K .width) where
+  module _ (w : List ℕ) (p : Place) (a b : List ℕ) (s : Level K p a b) (low : 1 ≤ p .window .start .0)
+      (top : p .window .taken .0 + 1 ≤ p .settings .limit)
+      (size : length (K .own (p .window .taken .0 + 1) w) ≡ K .width) where
     -- a pick taken and tested once
-    first-twin : (k : ℕ) → p .start .0 + k ≤ p .taken .0 + 1 → Twin K (tried K (entered K k w (state p a))) (tried K (entered K k w (state p b)))
-    unfolding startMoved pickTaken
+    first-twin : (k : ℕ) → p .window .start .0 + k ≤ p .window .taken .0 + 1
+        → Twin K (tried K (entered K k w (state p a))) (tried K (entered K k w (state p b)))
+    unfolding startMoved picksTaken
     first-twin k h =
         let t = entered-twin k w p s low top size in
         let g = entered-grown K k w (state p a) top in
         let gs = g .start in
         let gm = g .taken in
-        let gl = g .limit in
+        let gl = limit-of (g .settings) in
         onward K (tried K) t (tried-twin (entered K k w (state p a) .place) (t .level) (omega arith) (omega arith) (omega arith))
 
     -- measures 2, 3 and 4
-    min-twin : p .start .0 + val (p .passed) ≤ p .taken .0 + 1 → Twin K (minStep K w (state p a)) (minStep K w (state p b))
+    min-twin : p .window .start .0 + val (p .marks .passed) ≤ p .window .taken .0 + 1 → Twin K (minStep K w (state p a)) (minStep K w (state p b))
     unfolding minStep
-    min-twin h = let t = first-twin (val (p .passed)) h in onward K (cleared K) t (cleared-twin _ (t .level))
+    min-twin h = let t = first-twin (val (p .marks .passed)) h in onward K (cleared K) t (cleared-twin _ (t .level))
 
     -- measure 1
-    max-twin : (k : ℕ) → p .start .0 + k ≤ p .taken .0 + 1
+    max-twin : (k : ℕ) → p .window .start .0 + k ≤ p .window .taken .0 + 1
         → Twin K (cleared K (climbed K (tried K (entered K k w (state p a))))) (cleared K (climbed K (tried K (entered K k w (state p b)))))
-    unfolding startMoved pickTaken
+    unfolding startMoved picksTaken
     max-twin k h =
         let t = first-twin k h in
         let g = entered-grown K k w (state p a) top in
         let gs = g .start in
         let gm = g .taken in
-        let gl = g .limit in
+        let gl = limit-of (g .settings) in
         let n = tried-grown K (entered K k w (state p a)) in
         let ns = n .start in
         let nm = n .taken in
-        let nl = n .limit in
+        let nl = limit-of (n .settings) in
         let c = onward K (climbed K) t (climbed-twin (tried K (entered K k w (state p a)) .place) (t .level) (omega arith) (omega arith)) in
         onward K (cleared K) c (cleared-twin _ (c .level))
 
     -- by the measure, and by whether measure 1 has ended
-    stepped-by : (x y : Bool) → (x && y) ≡ false → p .start .0 + val (p .failed) ≤ p .taken .0 + 1 → p .start .0 + val (p .passed) ≤ p .taken .0 + 1
+    stepped-by : (x y : Bool) → (x && y) ≡ false → p .window .start .0 + val (p .marks .failed) ≤ p .window .taken .0 + 1
+        → p .window .start .0 + val (p .marks .passed) ≤ p .window .taken .0 + 1
         → Twin K
-        (either x (either y (state (pickTaken p) a) (cleared K (climbed K (tried K (entered K (val (p .failed)) w (state p a)))))) (minStep K w (state p a)))
-        (either x (either y (state (pickTaken p) b) (cleared K (climbed K (tried K (entered K (val (p .failed)) w (state p b)))))) (minStep K w (state p b)))
+        (cond x (cond y (state (picksTaken p 1) a) (cleared K (climbed K (tried K (entered K (val (p .marks .failed)) w (state p a))))))
+        (minStep K w (state p a)))
+        (cond x (cond y (state (picksTaken p 1) b) (cleared K (climbed K (tried K (entered K (val (p .marks .failed)) w (state p b))))))
+        (minStep K w (state p b)))
     stepped-by true true z f h = absurd (subst T z tt)
-    stepped-by true false z f h = max-twin (val (p .failed)) f
+    stepped-by true false z f h = max-twin (val (p .marks .failed)) f
     stepped-by false y z f h = min-twin h
 
     -- any measure, before that end
-    stepped-twin : finished p ≡ false → p .start .0 + val (p .failed) ≤ p .taken .0 + 1 → p .start .0 + val (p .passed) ≤ p .taken .0 + 1
+    stepped-twin : finished p ≡ false → p .window .start .0 + val (p .marks .failed) ≤ p .window .taken .0 + 1
+        → p .window .start .0 + val (p .marks .passed) ≤ p .window .taken .0 + 1
         → Twin K (stepped K w (state p a)) (stepped K w (state p b))
     unfolding stepped maxStep
-    stepped-twin z f h = stepped-by (eqb (p .measure) 1) (ended p) z f h
+    stepped-twin z f h = stepped-by (eqb (p .settings .measure) 1) (ended p) z f h
 
 -- ---- AREAS ALIKE
 
@@ -370,43 +399,45 @@ alike-trans x y = record {
 }
 
 -- it goes by the measure, the boards, the limit and the picks taken, and by nothing else of a place
-pub alike-at : {p q : Place} {a b : List ℕ} → q .measure ≡ p .measure → q .boards ≡ p .boards → q .limit ≡ p .limit → q .taken .0 ≡ p .taken .0
-    → Alike p a b → Alike q a b
-alike-at e f g h x = record {
-  picks = λ i l k. rw (e, f) (x .picks i l (omega arith));
-  right = λ k. rw (e, f, g) (x .right (omega arith));
-  footprint = rw (e, f, g) (x .footprint);
+pub alike-at : {p q : Place} {a b : List ℕ} → q .settings ≡ p .settings → q .window .taken .0 ≡ p .window .taken .0 → Alike p a b → Alike q a b
+alike-at e h x = record {
+  picks = λ i l k. rw e (x .picks i l (omega arith));
+  right = λ k. rw e (x .right (omega arith));
+  footprint = rw e (x .footprint);
 }
 
 -- with no pick taken, areas with the same footprint are alike
-pub alike-fresh : (p : Place) (a b : List ℕ) → p .taken .0 ≡ 0
-    → part (widthOf (p .measure) (p .boards)) a (p .limit + 3) ≡ part (widthOf (p .measure) (p .boards)) b (p .limit + 3) → Alike p a b
+pub alike-fresh : (p : Place) (a b : List ℕ) → p .window .taken .0 ≡ 0
+    → part (kitOf (p .settings) .width) a (p .settings .limit + 3) ≡ part (kitOf (p .settings) .width) b (p .settings .limit + 3) → Alike p a b
 alike-fresh p a b e f = record { picks = λ i l h. absurd (omega arith); right = λ h. absurd (omega arith); footprint = f }
 
 -- ---- what is not told
 
 -- a table written to a part beyond the right ladder's, and not to the footprint's
-put-unread : (p : Place) (a t : List ℕ) (d : ℕ) → Able p (length a) → p .taken .0 ≤ p .limit → length t ≡ widthOf (p .measure) (p .boards)
-    → p .limit + 2 ≤ d → d ≤ p .limit + 4 → p .limit + 3 ≢ d → Alike p (putPart (widthOf (p .measure) (p .boards)) a d t) a
+put-unread : (p : Place) (a t : List ℕ) (d : ℕ) → Able (p .settings) (length a) → p .window .taken .0 ≤ p .settings .limit
+    → length t ≡ kitOf (p .settings) .width
+    → p .settings .limit + 2 ≤ d → d ≤ p .settings .limit + 4 → p .settings .limit + 3 ≢ d
+    → Alike p (putPart (kitOf (p .settings) .width) a d t) a
 put-unread p a t d h top size low high apart =
-    let other = put-other (widthOf (p .measure) (p .boards)) (p .limit + 4) a (h .room) d (omega arith) high t size in
+    let other = put-other (kitOf (p .settings) .width) (p .settings .limit + 4) a (h .room) d (omega arith) high t size in
     record {
       picks = λ i l k. other i l (λ e. omega arith);
-      right = λ k. other (p .limit + 1) (omega arith) (λ e. omega arith);
-      footprint = other (p .limit + 3) (omega arith) apart;
+      right = λ k. other (p .settings .limit + 1) (omega arith) (λ e. omega arith);
+      footprint = other (p .settings .limit + 3) (omega arith) apart;
     }
 
 -- what is written to the window's part is not told
-pub alike-window : (p : Place) (a t : List ℕ) → Able p (length a) → p .taken .0 ≤ p .limit → length t ≡ widthOf (p .measure) (p .boards)
-    → Alike p (putPart (widthOf (p .measure) (p .boards)) a (p .limit + 2) t) a
-alike-window p a t h top size = put-unread p a t (p .limit + 2) h top size (omega arith) (omega arith) (λ e. omega arith)
+pub alike-window : (p : Place) (a t : List ℕ) → Able (p .settings) (length a) → p .window .taken .0 ≤ p .settings .limit
+    → length t ≡ kitOf (p .settings) .width
+    → Alike p (putPart (kitOf (p .settings) .width) a (p .settings .limit + 2) t) a
+alike-window p a t h top size = put-unread p a t (p .settings .limit + 2) h top size (omega arith) (omega arith) (λ e. omega arith)
 
 -- and so the window itself
-pub alike-windowed : (p : Place) (a : List ℕ) → Fit p (length a) → Alike p (windowed (kitOf p) (state p a) .area) a
+pub alike-windowed : (p : Place) (a : List ℕ) {d : ℕ} → Fit p (length a) d → Alike p (windowed (kitOf (p .settings)) (state p a) .area) a
 unfolding windowed
 alike-windowed p a f =
-    let K = kitOf p in
-    let wide = kit-wide (p .measure) (p .boards) in
+    let K = kitOf (p .settings) in
+    let wide = kit-wide (p .settings .measure) (p .settings .boards) in
     let x = onLeft p in
     let y = onRight p in
     let i = f .inside in
@@ -415,36 +446,39 @@ alike-windowed p a f =
     (alike-window p a (windowTable K x y p a) (f .able) top (window-wide K wide x y p a (f .able .room) (f .start) (omega arith)))
 
 -- a test writes no more than the window
-pub alike-tested : (p : Place) (a : List ℕ) → Fit p (length a) → Alike p (tried (kitOf p) (state p a) .area) a
+pub alike-tested : (p : Place) (a : List ℕ) {d : ℕ} → Fit p (length a) d → Alike p (tried (kitOf (p .settings)) (state p a) .area) a
 unfolding tried judged
 alike-tested p a f = alike-windowed p a f
 
 -- the place after a test, from the parts that it reads: no part limit + 2 is needed
-pub tried-reads : (p : Place) (a : List ℕ) → Fit p (length a)
-    → tried (kitOf p) (state p a) .place
+pub tried-reads : (p : Place) (a : List ℕ) {d : ℕ} → Fit p (length a) d
+    → tried (kitOf (p .settings)) (state p a) .place
     ≡ tested (charged p (val (onLeft p && onRight p)))
-    (kitOf p .pass (part (widthOf (p .measure) (p .boards)) a (p .limit + 3)) (windowTable (kitOf p) (onLeft p) (onRight p) p a))
+    (kitOf (p .settings) .pass (part (kitOf (p .settings) .width) a (p .settings .limit + 3)) (windowTable (kitOf (p .settings)) (onLeft p) (onRight p) p a))
 tried-reads p a f =
     let i = f .inside in
     let top = f .top in
-    tried-place (kitOf p) (kit-wide (p .measure) (p .boards)) p a (f .able .room) (f .start) (omega arith)
+    tried-place (kitOf (p .settings)) (kit-wide (p .settings .measure) (p .settings .boards)) p a (f .able .room) (f .start) (omega arith)
 
 -- part limit + 4 set to zero is not told
-pub alike-spare : (p : Place) (a : List ℕ) → Able p (length a) → p .taken .0 ≤ p .limit → Alike p (zeroAt (kitOf p) a (p .limit + 4)) a
+pub alike-spare : (p : Place) (a : List ℕ) → Able (p .settings) (length a) → p .window .taken .0 ≤ p .settings .limit
+    → Alike p (zeroAt (kitOf (p .settings)) a (p .settings .limit + 4)) a
 unfolding zeroAt
 alike-spare p a h top =
-    let E = widthOf (p .measure) (p .boards) in
-    put-unread p a (zeros E) (p .limit + 4) h top (length-zeros E) (omega arith) (omega arith) (λ e. omega arith)
+    let E = kitOf (p .settings) .width in
+    put-unread p a (zeros E) (p .settings .limit + 4) h top (length-zeros E) (omega arith) (omega arith) (λ e. omega arith)
 
 -- and so its clearing after a pick
-pub alike-cleared : (p : Place) (a : List ℕ) → Able p (length a) → p .taken .0 ≤ p .limit → Alike p (cleared (kitOf p) (state p a) .area) a
+pub alike-cleared : (p : Place) (a : List ℕ) → Able (p .settings) (length a) → p .window .taken .0 ≤ p .settings .limit
+    → Alike p (cleared (kitOf (p .settings)) (state p a) .area) a
 unfolding cleared
 alike-cleared p a h top = alike-spare p a h top
 
 -- ---- THE STEPS on areas that are alike
 
 -- areas that are alike, with room
-from-alike : (p : Place) {a b : List ℕ} → Able p (length a) → Able p (length b) → Alike p a b → Level (kitOf p) p a b
+from-alike : (p : Place) {a b : List ℕ} → Able (p .settings) (length a) → Able (p .settings) (length b) → Alike p a b
+    → Level (kitOf (p .settings)) p a b
 from-alike p f g x = record {
   width = refl;
   area = record { first = f .room; second = g .room; picks = x .picks; right = x .right; footprint = x .footprint };
@@ -458,39 +492,45 @@ to-alike {K} {st} {q} t =
       t .place,
       record {
         picks = λ i l h. subst (λ (E : ℕ). part E (st .area) i ≡ part E (q .area) i) e (s .picks i l h);
-        right = λ h. subst (λ (E : ℕ). part E (st .area) (st .place .limit + 1) ≡ part E (q .area) (st .place .limit + 1)) e (s .right h);
-        footprint = subst (λ (E : ℕ). part E (st .area) (st .place .limit + 3) ≡ part E (q .area) (st .place .limit + 3)) e (s .footprint);
+        right = λ h. subst (λ (E : ℕ). part E (st .area) (st .place .settings .limit + 1) ≡ part E (q .area) (st .place .settings .limit + 1)) e
+            (s .right h);
+        footprint = subst (λ (E : ℕ). part E (st .area) (st .place .settings .limit + 3) ≡ part E (q .area) (st .place .settings .limit + 3)) e
+            (s .footprint);
       },
     )
 
 -- A STEP, not after the end of measure 1: the areas are alike at its place, though the walk may end there.
 pub alike-going : (p : Place) (w a b : List ℕ) → Takes p (length a) (length w) → Takes p (length b) (length w) → finished p ≡ false → Alike p a b
-    → Agrees (stepped (kitOf p) w) p a b
+    → Agrees (stepped (kitOf (p .settings)) w) p a b
 alike-going p w a b f g z x =
-    to-alike (stepped-twin (kitOf p) (kit-wide (p .measure) (p .boards)) w p a b (from-alike p (f .passed .able) (g .passed .able) x) (f .passed .start)
-    (f .passed .top) (own-wide 31 (p .measure) (p .boards) (p .taken .0 + 1) w (sym (f .shape))) z (f .failed .ahead) (f .passed .ahead))
+    to-alike (stepped-twin (kitOf (p .settings)) (kit-wide (p .settings .measure) (p .settings .boards)) w p a b (from-alike p (f .passed .able)
+    (g .passed .able) x) (f .passed .start)
+    (f .passed .top) (own-wide 31 (p .settings .measure) (p .settings .boards) (p .window .taken .0 + 1) w (sym (f .shape))) z (f .failed .ahead)
+    (f .passed .ahead))
 
 -- after the end of measure 1 a pick raises m only
-pub finished-step : (p : Place) (w a : List ℕ) → finished p ≡ true → stepped (kitOf p) w (state p a) ≡ state (pickTaken p) a
+pub finished-step : (p : Place) (w a : List ℕ) → finished p ≡ true → stepped (kitOf (p .settings)) w (state p a) ≡ state (picksTaken p 1) a
 unfolding stepped maxStep
-finished-step p w a z = rw (and-left (eqb (p .measure) 1) (ended p) z, and-right (eqb (p .measure) 1) (ended p) z)
+finished-step p w a z = rw (and-left (eqb (p .settings .measure) 1) (ended p) z, and-right (eqb (p .settings .measure) 1) (ended p) z)
 
 -- and it stays over
-pub finished-stays : (p : Place) → finished p ≡ true → finished (pickTaken p) ≡ true
-unfolding pickTaken
+pub finished-stays : (p : Place) → finished p ≡ true → finished (picksTaken p 1) ≡ true
+unfolding picksTaken
 finished-stays p z =
-    let e = and-right (eqb (p .measure) 1) (ended p) z in
-    and-both (and-left (eqb (p .measure) 1) (ended p) z)
-    (and-both (lt-ltb 0 (p .taken .0 + 1) (omega arith)) (and-right (ltb 0 (p .taken .0)) (not (p .passed)) e))
+    let e = and-right (eqb (p .settings .measure) 1) (ended p) z in
+    and-both (and-left (eqb (p .settings .measure) 1) (ended p) z)
+    (and-both (lt-ltb 0 (p .window .taken .0 + 1) (omega arith)) (and-right (ltb 0 (p .window .taken .0)) (not (p .marks .passed)) e))
 
 -- A STEP OF A WALK: from areas that are alike for as long as it reads them it comes to one place, and to such areas.
 pub alike-stepped : (p : Place) (w a b : List ℕ) → Takes p (length a) (length w) → Takes p (length b) (length w) → StillAlike p a b
-    → (stepped (kitOf p) w (state p a) .place ≡ stepped (kitOf p) w (state p b) .place)
-    × StillAlike (stepped (kitOf p) w (state p a) .place) (stepped (kitOf p) w (state p a) .area) (stepped (kitOf p) w (state p b) .area)
+    → (stepped (kitOf (p .settings)) w (state p a) .place ≡ stepped (kitOf (p .settings)) w (state p b) .place)
+    × StillAlike (stepped (kitOf (p .settings)) w (state p a) .place) (stepped (kitOf (p .settings)) w (state p a) .area)
+    (stepped (kitOf (p .settings)) w (state p b) .area)
 alike-stepped p w a b f g x = go (finished p) refl
   where
     go : (y : Bool) → finished p ≡ y
-        → (stepped (kitOf p) w (state p a) .place ≡ stepped (kitOf p) w (state p b) .place)
-        × StillAlike (stepped (kitOf p) w (state p a) .place) (stepped (kitOf p) w (state p a) .area) (stepped (kitOf p) w (state p b) .area)
+        → (stepped (kitOf (p .settings)) w (state p a) .place ≡ stepped (kitOf (p .settings)) w (state p b) .place)
+        × StillAlike (stepped (kitOf (p .settings)) w (state p a) .place) (stepped (kitOf (p .settings)) w (state p a) .area)
+        (stepped (kitOf (p .settings)) w (state p b) .area)
     go true z = rw (finished-step p w a z, finished-step p w b z) (refl, λ o. absurd (subst T (sym (finished-stays p z) ∙ o) tt))
     go false z = let r = alike-going p w a b f g z (x z) in (r .0, λ o. r .1)

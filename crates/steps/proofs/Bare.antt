@@ -9,47 +9,52 @@ use borrow.Author.Tests.{ne-eqb}
 use Rattle.model.specs.Journey.{val}
 use Rattle.measures.specs.Kit.{kit, widthOf}
 use Rattle.area.proofs.Laws.{kit-wide, own-wide}
+use Rattle.place.specs.declared.Settings.{Settings}
 use Rattle.place.specs.declared.Place.{Place}
-use Rattle.place.specs.Places.{pickTaken, startMoved}
+use Rattle.place.specs.Places.{picksTaken, startMoved, perLadder}
 use Rattle.steps.specs.Walk.{State, state, kitOf, entered, tried, cleared, minStep, stepped}
 use Rattle.steps.specs.Fit.{Able, Fit, Takes}
 use Rattle.steps.specs.Alike.{Alike}
 use Rattle.steps.specs.Bare.{composes, bareTried, spared, bareStep}
-use Rattle.steps.proofs.Fit.{able-kept}
+use Rattle.steps.proofs.Fit.{limit-of, able-kept}
 use Rattle.steps.proofs.Grown.{entered-grown, tried-grown, enter-tries}
 use Rattle.steps.proofs.Closes.{spared-other}
-use Rattle.steps.proofs.Frames.{either-ind, Frame, frame-room, then, weaker, entered-frame, tried-frame, stepped-frame}
+use Rattle.steps.proofs.Frames.{cond-ind, Frame, frame-room, then, weaker, entered-frame, tried-frame, stepped-frame}
 use Rattle.steps.proofs.Alike.{StillAlike, alike-refl, alike-sym, alike-trans, alike-at, alike-tested, alike-cleared, alike-stepped}
 
 -- ---- by the measure
 
 -- the step of a measure that is spared makes one test
-stepped-min : (p : Place) (w a : List ℕ) → spared p ≡ true → stepped (kitOf p) w (state p a) ≡ minStep (kitOf p) w (state p a)
+stepped-min : (p : Place) (w a : List ℕ) → spared (p .settings) ≡ true → stepped (kitOf (p .settings)) w (state p a)
+    ≡ minStep (kitOf (p .settings)) w (state p a)
 unfolding stepped
-stepped-min p w a z = rw (ne-eqb (p .measure) 1 (spared-other p z))
+stepped-min p w a z = rw (ne-eqb (p .settings .measure) 1 (spared-other (p .settings) z))
 
 -- and its bare step tests what was entered
-bare-spared : (p : Place) (w a : List ℕ) → spared p ≡ true
-    → bareStep (kitOf p) w (state p a) ≡ bareTried (kitOf p) (entered (kitOf p) (val (p .passed)) w (state p a))
+bare-spared : (p : Place) (w a : List ℕ) → spared (p .settings) ≡ true
+    → bareStep (kitOf (p .settings)) w (state p a) ≡ bareTried (kitOf (p .settings)) (entered (kitOf (p .settings)) (val (p .marks .passed)) w (state p a))
 unfolding bareStep
 bare-spared p w a z = rw z
 
 -- the bare step of any other measure is that of the walk
-pub bare-whole : (p : Place) (w a : List ℕ) → spared p ≡ false → bareStep (kitOf p) w (state p a) ≡ stepped (kitOf p) w (state p a)
+pub bare-whole : (p : Place) (w a : List ℕ) → spared (p .settings) ≡ false
+    → bareStep (kitOf (p .settings)) w (state p a) ≡ stepped (kitOf (p .settings)) w (state p a)
 unfolding bareStep
 bare-whole p w a z = rw z
 
 -- where one test is made, both come to one place
 tested-place : (p : Place) (w a : List ℕ)
-    → bareTried (kitOf p) (entered (kitOf p) (val (p .passed)) w (state p a)) .place ≡ minStep (kitOf p) w (state p a) .place
+    → bareTried (kitOf (p .settings)) (entered (kitOf (p .settings)) (val (p .marks .passed)) w (state p a)) .place
+    ≡ minStep (kitOf (p .settings)) w (state p a) .place
 unfolding bareTried minStep cleared
 tested-place p w a = refl
 
 -- THE PLACE after a bare step is that of the walk.
-pub bare-place : (p : Place) (w a : List ℕ) → bareStep (kitOf p) w (state p a) .place ≡ stepped (kitOf p) w (state p a) .place
-bare-place p w a = go (spared p) refl
+pub bare-place : (p : Place) (w a : List ℕ) → bareStep (kitOf (p .settings)) w (state p a) .place ≡ stepped (kitOf (p .settings)) w (state p a) .place
+bare-place p w a = go (spared (p .settings)) refl
   where
-    go : (x : Bool) → spared p ≡ x → bareStep (kitOf p) w (state p a) .place ≡ stepped (kitOf p) w (state p a) .place
+    go : (x : Bool) → spared (p .settings) ≡ x → bareStep (kitOf (p .settings)) w (state p a) .place
+        ≡ stepped (kitOf (p .settings)) w (state p a) .place
     go true z =
         ap (λ (q : State). q .place) (bare-spared p w a z)
         ∙ tested-place p w a
@@ -58,49 +63,48 @@ bare-place p w a = go (spared p) refl
 
 -- ---- what is not told
 
--- a test by the kit of a place with the same measure and boards
-tested-as : (p q : Place) (b : List ℕ) → q .measure ≡ p .measure → q .boards ≡ p .boards → Fit q (length b) → Alike q (tried (kitOf p) (state q b) .area) b
-tested-as p q b e g f =
-    subst (λ (m : ℕ). Alike q (tried (kit m (p .boards)) (state q b) .area) b) e
-    (subst (λ (n : ℕ). Alike q (tried (kit (q .measure) n) (state q b) .area) b) g (alike-tested q b f))
+-- a test by the kit of a place with the same settings
+tested-as : (p q : Place) (b : List ℕ) {d : ℕ} → q .settings ≡ p .settings → Fit q (length b) d
+    → Alike q (tried (kitOf (p .settings)) (state q b) .area) b
+tested-as p q b e f = subst (λ (s : Settings). Alike q (tried (kitOf s) (state q b) .area) b) e (alike-tested q b f)
 
 -- and part limit + 4 cleared by it
-cleared-as : (p q : Place) (b : List ℕ) → q .measure ≡ p .measure → q .boards ≡ p .boards → Able q (length b) → q .taken .0 ≤ q .limit
-    → Alike q (cleared (kitOf p) (state q b) .area) b
-cleared-as p q b e g f top =
-    subst (λ (m : ℕ). Alike q (cleared (kit m (p .boards)) (state q b) .area) b) e
-    (subst (λ (n : ℕ). Alike q (cleared (kit (q .measure) n) (state q b) .area) b) g (alike-cleared q b f top))
+cleared-as : (p q : Place) (b : List ℕ) → q .settings ≡ p .settings → Able (q .settings) (length b) → q .window .taken .0 ≤ q .settings .limit
+    → Alike q (cleared (kitOf (p .settings)) (state q b) .area) b
+cleared-as p q b e f top = subst (λ (s : Settings). Alike q (cleared (kitOf s) (state q b) .area) b) e (alike-cleared q b f top)
 
 -- from a to b, the length and the words beyond the parts of the place p are as they were
 abbrev Kept : Place → List ℕ → List ℕ → Type 0
 Kept p a b =
     (length b ≡ length a)
-    × (drop ((p .limit + 4) * widthOf (p .measure) (p .boards)) b ≡ drop ((p .limit + 4) * widthOf (p .measure) (p .boards)) a)
+    × (drop ((p .settings .limit + 4) * kitOf (p .settings) .width) b ≡ drop ((p .settings .limit + 4) * kitOf (p .settings) .width) a)
 
 -- what a frame keeps
-frame-kept : (p : Place) (a : List ℕ) {q : State} {Out : ℕ → Type 0} → Frame (kitOf p) (state p a) q Out → Kept p a (q .area)
+frame-kept : (p : Place) (a : List ℕ) {q : State} {Out : ℕ → Type 0} → Frame (kitOf (p .settings)) (state p a) q Out → Kept p a (q .area)
 frame-kept p a f = (f .size, f .beyond)
 
 module _ (p : Place) (w a : List ℕ) (t : Takes p (length a) (length w)) where
   -- the pick's own table has the words of a part
-  own-size : length (kitOf p .own (p .taken .0 + 1) w) ≡ widthOf (p .measure) (p .boards)
-  own-size = own-wide 31 (p .measure) (p .boards) (p .taken .0 + 1) w (sym (t .shape))
+  own-size : length (kitOf (p .settings) .own (p .window .taken .0 + 1) w) ≡ kitOf (p .settings) .width
+  own-size = own-wide 31 (p .settings .measure) (p .settings .boards) (p .window .taken .0 + 1) w (sym (t .shape))
 
   -- the pick entered
-  entered-none : Frame (kitOf p) (state p a) (entered (kitOf p) (val (p .passed)) w (state p a)) (λ (j : ℕ). ⊥)
+  entered-none : Frame (kitOf (p .settings)) (state p a) (entered (kitOf (p .settings)) (val (p .marks .passed)) w (state p a)) (λ (j : ℕ). ⊥)
   entered-none =
       let e = t .passed in
       let top = e .top in
-      weaker (kitOf p) _ _ _ _
-      (entered-frame (kitOf p) (kit-wide (p .measure) (p .boards)) (val (p .passed)) w (state p a) (e .able .room) (e .start) (omega arith) own-size)
+      weaker (kitOf (p .settings)) _ _ _ _
+      (entered-frame (kitOf (p .settings)) (kit-wide (p .settings .measure) (p .settings .boards)) (val (p .marks .passed)) w (state p a) (e .able .room)
+      (e .start) (omega arith) own-size)
       (λ j o. absurd o)
 
   -- and tested
-  tested-none : Frame (kitOf p) (state p a) (tried (kitOf p) (entered (kitOf p) (val (p .passed)) w (state p a))) (λ (j : ℕ). ⊥)
-  unfolding startMoved pickTaken
+  tested-none : Frame (kitOf (p .settings)) (state p a) (tried (kitOf (p .settings)) (entered (kitOf (p .settings)) (val (p .marks .passed)) w (state p a)))
+      (λ (j : ℕ). ⊥)
+  unfolding startMoved picksTaken
   tested-none =
-      let K = kitOf p in
-      let k = val (p .passed) in
+      let K = kitOf (p .settings) in
+      let k = val (p .marks .passed) in
       let st = entered K k w (state p a) in
       let e = t .passed in
       let low = e .start in
@@ -108,23 +112,25 @@ module _ (p : Place) (w a : List ℕ) (t : Takes p (length a) (length w)) where
       let top = e .top in
       let g = entered-grown K k w (state p a) top in
       let gs = g .start in
-      let gl = g .limit in
+      let gl = limit-of (g .settings) in
       let f = entered-none in
       then K (state p a) st (tried K st) _ _ _ f
-      (tried-frame K (kit-wide (p .measure) (p .boards)) st (frame-room K (state p a) st _ f (e .able .room)) (omega arith) (omega arith))
+      (tried-frame K (kit-wide (p .settings .measure) (p .settings .boards)) st (frame-room K (state p a) st _ f (e .able .room)) (omega arith) (omega arith))
       (λ j o. o) (λ j o. absurd o)
 
   -- the place that is entered may be tested
-  entered-fit : Fit (entered (kitOf p) (val (p .passed)) w (state p a) .place) (length (entered (kitOf p) (val (p .passed)) w (state p a) .area))
-  entered-fit = enter-tries p a (val (p .passed)) w (t .passed) (refl, refl) (entered-none .size) .0
+  entered-fit : Fit (entered (kitOf (p .settings)) (val (p .marks .passed)) w (state p a) .place) (length (entered (kitOf (p .settings))
+      (val (p .marks .passed)) w (state p a) .area)) (3 * perLadder + 1)
+  entered-fit = enter-tries p a (val (p .marks .passed)) w (t .passed) (refl, refl) (entered-none .size)
 
   -- where one test is made, the areas are alike
-  tested-alike : Alike (minStep (kitOf p) w (state p a) .place) (bareTried (kitOf p) (entered (kitOf p) (val (p .passed)) w (state p a)) .area)
-      (minStep (kitOf p) w (state p a) .area)
-  unfolding bareTried minStep cleared startMoved pickTaken
+  tested-alike : Alike (minStep (kitOf (p .settings)) w (state p a) .place) (bareTried (kitOf (p .settings)) (entered (kitOf (p .settings))
+      (val (p .marks .passed)) w (state p a)) .area)
+      (minStep (kitOf (p .settings)) w (state p a) .area)
+  unfolding bareTried minStep cleared startMoved picksTaken
   tested-alike =
-      let K = kitOf p in
-      let k = val (p .passed) in
+      let K = kitOf (p .settings) in
+      let k = val (p .marks .passed) in
       let st = entered K k w (state p a) in
       let q = st .place in
       let u = tried K st in
@@ -134,33 +140,36 @@ module _ (p : Place) (w a : List ℕ) (t : Takes p (length a) (length w)) where
       let f = entered-fit in
       let ft = f .top in
       let nm = n .taken in
-      let nl = n .limit in
+      let nl = limit-of (n .settings) in
       let kept : length (st .area) ≡ length (u .area) = entered-none .size ∙ sym (tested-none .size) in
-      let able : Able r (length (u .area)) = subst (λ (i : ℕ). Able r i) kept (able-kept (n .boards) (n .measure) (n .limit) (f .able)) in
-      let x : Alike r (u .area) (st .area) = alike-at (n .measure) (n .boards) (n .limit) (n .taken) (tested-as p q (st .area) (g .measure) (g .boards) f) in
-      let y : Alike r (cleared K u .area) (u .area) = cleared-as p r (u .area) (n .measure ∙ g .measure) (n .boards ∙ g .boards) able (omega arith) in
+      let able : Able (r .settings) (length (u .area)) = subst (λ (i : ℕ). Able (r .settings) i) kept (able-kept (n .settings) (f .able)) in
+      let x : Alike r (u .area) (st .area) = alike-at (n .settings) (n .taken) (tested-as p q (st .area) (g .settings) f) in
+      let y : Alike r (cleared K u .area) (u .area) = cleared-as p r (u .area) (n .settings ∙ g .settings) able (omega arith) in
       alike-trans
-      (either-ind (λ (z : List ℕ). Alike r z (u .area)) (composes q) (u .area) (st .area) (λ o. alike-refl r (u .area)) (λ o. alike-sym x)) (alike-sym y)
+      (cond-ind (λ (z : List ℕ). Alike r z (u .area)) (composes q) (u .area) (st .area) (λ o. alike-refl r (u .area)) (λ o. alike-sym x)) (alike-sym y)
 
 -- THE AREA after a bare step is one that the walk cannot tell from its own.
 pub bare-alike : (p : Place) (w a : List ℕ) → Takes p (length a) (length w)
-    → StillAlike (stepped (kitOf p) w (state p a) .place) (bareStep (kitOf p) w (state p a) .area) (stepped (kitOf p) w (state p a) .area)
-bare-alike p w a t o = go (spared p) refl
+    → StillAlike (stepped (kitOf (p .settings)) w (state p a) .place) (bareStep (kitOf (p .settings)) w (state p a) .area)
+    (stepped (kitOf (p .settings)) w (state p a) .area)
+bare-alike p w a t o = go (spared (p .settings)) refl
   where
-    go : (x : Bool) → spared p ≡ x
-        → Alike (stepped (kitOf p) w (state p a) .place) (bareStep (kitOf p) w (state p a) .area) (stepped (kitOf p) w (state p a) .area)
+    go : (x : Bool) → spared (p .settings) ≡ x
+        → Alike (stepped (kitOf (p .settings)) w (state p a) .place) (bareStep (kitOf (p .settings)) w (state p a) .area)
+        (stepped (kitOf (p .settings)) w (state p a) .area)
     go true z = rw (bare-spared p w a z, stepped-min p w a z) (tested-alike p w a t)
-    go false z = rw (bare-whole p w a z) (alike-refl (stepped (kitOf p) w (state p a) .place) (stepped (kitOf p) w (state p a) .area))
+    go false z = rw (bare-whole p w a z) (alike-refl (stepped (kitOf (p .settings)) w (state p a) .place) (stepped (kitOf (p .settings)) w (state p a) .area))
 
 -- A BARE STEP BESIDE A STEP OF THE WALK: from areas that are alike for as long as the walk reads them, both come to one place and to such areas.
 pub bare-walks : (p : Place) (w a b : List ℕ) → Takes p (length a) (length w) → Takes p (length b) (length w) → StillAlike p a b
-    → (bareStep (kitOf p) w (state p a) .place ≡ stepped (kitOf p) w (state p b) .place)
-    × StillAlike (bareStep (kitOf p) w (state p a) .place) (bareStep (kitOf p) w (state p a) .area) (stepped (kitOf p) w (state p b) .area)
+    → (bareStep (kitOf (p .settings)) w (state p a) .place ≡ stepped (kitOf (p .settings)) w (state p b) .place)
+    × StillAlike (bareStep (kitOf (p .settings)) w (state p a) .place) (bareStep (kitOf (p .settings)) w (state p a) .area)
+    (stepped (kitOf (p .settings)) w (state p b) .area)
 bare-walks p w a b f g x =
     let e = bare-place p w a in
     let s = alike-stepped p w a b f g x in (
       e ∙ s .0,
-      subst (λ (q : Place). StillAlike q (bareStep (kitOf p) w (state p a) .area) (stepped (kitOf p) w (state p b) .area)) (sym e)
+      subst (λ (q : Place). StillAlike q (bareStep (kitOf (p .settings)) w (state p a) .area) (stepped (kitOf (p .settings)) w (state p b) .area)) (sym e)
           (λ o. alike-trans (bare-alike p w a f o) (s .1 o)),
     )
 
@@ -168,29 +177,30 @@ bare-walks p w a b f g x =
 
 -- where one test is made
 tested-kept : (p : Place) (w a : List ℕ) → Takes p (length a) (length w)
-    → Kept p a (bareTried (kitOf p) (entered (kitOf p) (val (p .passed)) w (state p a)) .area)
+    → Kept p a (bareTried (kitOf (p .settings)) (entered (kitOf (p .settings)) (val (p .marks .passed)) w (state p a)) .area)
 unfolding bareTried
 tested-kept p w a t =
-    let st = entered (kitOf p) (val (p .passed)) w (state p a) in
-    either-ind (Kept p a) (composes (st .place)) (tried (kitOf p) st .area) (st .area)
+    let st = entered (kitOf (p .settings)) (val (p .marks .passed)) w (state p a) in
+    cond-ind (Kept p a) (composes (st .place)) (tried (kitOf (p .settings)) st .area) (st .area)
     (λ o. frame-kept p a (tested-none p w a t)) (λ o. frame-kept p a (entered-none p w a t))
 
 -- in the walk
-stepped-kept : (p : Place) (w a : List ℕ) → Takes p (length a) (length w) → Kept p a (stepped (kitOf p) w (state p a) .area)
+stepped-kept : (p : Place) (w a : List ℕ) → Takes p (length a) (length w) → Kept p a (stepped (kitOf (p .settings)) w (state p a) .area)
 stepped-kept p w a t =
     let e = t .passed in
     let ahead = e .ahead in
     let top = e .top in
     frame-kept p a
-    (stepped-frame (kitOf p) (kit-wide (p .measure) (p .boards)) w (state p a) (e .able .room) (e .start) (omega arith) (omega arith) (own-size p w a t))
+    (stepped-frame (kitOf (p .settings)) (kit-wide (p .settings .measure) (p .settings .boards)) w (state p a) (e .able .room) (e .start) (omega arith)
+    (omega arith) (own-size p w a t))
 
 -- A bare step keeps the length of the area, and the words beyond its limit + 4 parts.
 pub bare-frame : (p : Place) (w a : List ℕ) → Takes p (length a) (length w)
-    → (length (bareStep (kitOf p) w (state p a) .area) ≡ length a)
-    × (drop ((p .limit + 4) * widthOf (p .measure) (p .boards)) (bareStep (kitOf p) w (state p a) .area)
-    ≡ drop ((p .limit + 4) * widthOf (p .measure) (p .boards)) a)
-bare-frame p w a t = go (spared p) refl
+    → (length (bareStep (kitOf (p .settings)) w (state p a) .area) ≡ length a)
+    × (drop ((p .settings .limit + 4) * kitOf (p .settings) .width) (bareStep (kitOf (p .settings)) w (state p a) .area)
+    ≡ drop ((p .settings .limit + 4) * kitOf (p .settings) .width) a)
+bare-frame p w a t = go (spared (p .settings)) refl
   where
-    go : (x : Bool) → spared p ≡ x → Kept p a (bareStep (kitOf p) w (state p a) .area)
+    go : (x : Bool) → spared (p .settings) ≡ x → Kept p a (bareStep (kitOf (p .settings)) w (state p a) .area)
     go true z = rw (bare-spared p w a z) (tested-kept p w a t)
     go false z = rw (bare-whole p w a z) (stepped-kept p w a t)

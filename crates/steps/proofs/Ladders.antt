@@ -25,77 +25,89 @@ and-none true = refl
 and-none false = refl
 
 -- a window that is not composed is not written
-still : (p : Place) (a : List ℕ) → composes p ≡ false → a ≡ bareTried (kitOf p) (state p a) .area
+still : (p : Place) (a : List ℕ) → composes p ≡ false → a ≡ bareTried (kitOf (p .settings)) (state p a) .area
 unfolding bareTried
 still p a e = rw e
 
 one-ladder : (p : Place) → (onLeft p && onRight p) ≡ false → composes p ≡ false
-one-ladder p e = ap (λ (x : Bool). eqb (p .measure) 4 && x) e ∙ and-none (eqb (p .measure) 4)
+one-ladder p e = ap (λ (x : Bool). eqb (p .settings .measure) 4 && x) e ∙ and-none (eqb (p .settings .measure) 4)
 
 -- ---- by the ladders that the window lies on
 
-module _ (p : Place) (a : List ℕ) (f : Fit p (length a)) where
+module _ (p : Place) (a : List ℕ) {d : ℕ} (f : Fit p (length a) d) where
   abbrev table : ℕ → List ℕ
-  table i = part (widthOf (p .measure) (p .boards)) a i
+  table i = part (widthOf (p .settings .measure) (p .settings .boards)) a i
 
   -- the right one
-  pub on-right : {r : Place} {x : Bool} → p .boundary .0 < p .start .0 → x ≡ kitOf p .pass (table (p .limit + 3)) (table (p .limit + 1)) → r ≡ tested p x
-      → Does (bareTried (kitOf p)) p a r a
+  pub on-right : {r : Place} {x : Bool} → p .window .boundary .0 < p .window .start .0
+      → x ≡ kitOf (p .settings) .pass (table (p .settings .limit + 3)) (table (p .settings .limit + 1)) → r ≡ tested p x
+      → Does (bareTried (kitOf (p .settings))) p a r a
   unfolding bareTried windowTable
   on-right {r} {x} h e g =
-      let l = lt-leb (p .start .0) (p .boundary .0) h in
+      let l = lt-leb (p .window .start .0) (p .window .boundary .0) h in
       let t = rw l at (tried-reads p a f) in (
-        g ∙ ap (tested p) e ∙ ap (λ (q : Place). tested q (kitOf p .pass (table (p .limit + 3)) (table (p .limit + 1)))) (charged-none p) ∙ sym t,
+        g ∙ ap (tested p) e ∙ ap (λ (q : Place). tested q (kitOf (p .settings) .pass (table (p .settings .limit + 3)) (table (p .settings .limit + 1))))
+            (charged-none p) ∙ sym t,
         still p a (one-ladder p (rw l)),
       )
 
   -- the left one
-  pub on-left : {r : Place} {x : Bool} → p .start .0 ≤ p .boundary .0 → p .taken .0 ≤ p .boundary .0 → x ≡ kitOf p .pass (table (p .limit + 3)) (table (p .start .0)) → r ≡ tested p x
-      → Does (bareTried (kitOf p)) p a r a
+  pub on-left : {r : Place} {x : Bool} → p .window .start .0 ≤ p .window .boundary .0 → p .window .taken .0 ≤ p .window .boundary .0
+      → x ≡ kitOf (p .settings) .pass (table (p .settings .limit + 3)) (table (p .window .start .0)) → r ≡ tested p x
+      → Does (bareTried (kitOf (p .settings))) p a r a
   unfolding bareTried windowTable
   on-left {r} {x} h k e g =
-      let l = le-leb (p .start .0) (p .boundary .0) h in
-      let m = le-ltb (p .boundary .0) (p .taken .0) k in
+      let l = le-leb (p .window .start .0) (p .window .boundary .0) h in
+      let m = le-ltb (p .window .boundary .0) (p .window .taken .0) k in
       let t = rw (l, m) at (tried-reads p a f) in (
-        g ∙ ap (tested p) e ∙ ap (λ (q : Place). tested q (kitOf p .pass (table (p .limit + 3)) (table (p .start .0)))) (charged-none p) ∙ sym t,
+        g ∙ ap (tested p) e ∙ ap (λ (q : Place). tested q (kitOf (p .settings) .pass (table (p .settings .limit + 3)) (table (p .window .start .0))))
+            (charged-none p) ∙ sym t,
         still p a (one-ladder p (rw (l, m))),
       )
 
   -- both, and not composed
-  pub on-both : {q r : Place} {x : Bool} → p .start .0 ≤ p .boundary .0 → p .boundary .0 < p .taken .0 → p .measure ≢ 4
-      → x ≡ kitOf p .pass (table (p .limit + 3)) (kitOf p .join (table (p .start .0)) (table (p .limit + 1))) → q ≡ charged p 1 → r ≡ tested q x
-      → Does (bareTried (kitOf p)) p a r a
+  pub on-both : {q r : Place} {x : Bool} → p .window .start .0 ≤ p .window .boundary .0 → p .window .boundary .0 < p .window .taken .0
+      → p .settings .measure ≢ 4
+      → x ≡ kitOf (p .settings) .pass (table (p .settings .limit + 3)) (kitOf (p .settings) .join (table (p .window .start .0))
+      (table (p .settings .limit + 1))) → q ≡ charged p 1 → r ≡ tested q x
+      → Does (bareTried (kitOf (p .settings))) p a r a
   unfolding bareTried windowTable
   on-both {q} {r} {x} h k n e u g =
-      let l = le-leb (p .start .0) (p .boundary .0) h in
-      let m = lt-ltb (p .boundary .0) (p .taken .0) k in
+      let l = le-leb (p .window .start .0) (p .window .boundary .0) h in
+      let m = lt-ltb (p .window .boundary .0) (p .window .taken .0) k in
       let t = rw (l, m) at (tried-reads p a f) in (
-        g ∙ ap (tested q) e ∙ ap (λ (z : Place). tested z (kitOf p .pass (table (p .limit + 3)) (kitOf p .join (table (p .start .0)) (table (p .limit + 1))))) u ∙ sym t,
-        still p a (rw (ne-eqb (p .measure) 4 n)),
+        g ∙ ap (tested q) e ∙ ap (λ (z : Place). tested z (kitOf (p .settings) .pass (table (p .settings .limit + 3))
+            (kitOf (p .settings) .join (table (p .window .start .0)) (table (p .settings .limit + 1))))) u ∙ sym t,
+        still p a (rw (ne-eqb (p .settings .measure) 4 n)),
       )
 
 -- both, and composed
-pub on-both-composed : (p : Place) (a : List ℕ) {r : Place} {b : List ℕ} → p .start .0 ≤ p .boundary .0 → p .boundary .0 < p .taken .0 → p .measure ≡ 4
-    → Does (tried (kitOf p)) p a r b → Does (bareTried (kitOf p)) p a r b
+pub on-both-composed : (p : Place) (a : List ℕ) {r : Place} {b : List ℕ} → p .window .start .0 ≤ p .window .boundary .0
+    → p .window .boundary .0 < p .window .taken .0 → p .settings .measure ≡ 4
+    → Does (tried (kitOf (p .settings))) p a r b → Does (bareTried (kitOf (p .settings))) p a r b
 unfolding bareTried
 on-both-composed p a {r} {b} h k e d =
-    let l = le-leb (p .start .0) (p .boundary .0) h in
-    let m = lt-ltb (p .boundary .0) (p .taken .0) k in
-    (d .0, rw (eq-eqb (p .measure) 4 e, l, m) (d .1))
+    let l = le-leb (p .window .start .0) (p .window .boundary .0) h in
+    let m = lt-ltb (p .window .boundary .0) (p .window .taken .0) k in
+    (d .0, rw (eq-eqb (p .settings .measure) 4 e, l, m) (d .1))
 
 -- ---- what the test of both ladders requires and says
 
 -- measure 2, where it is neither 4 nor 3
-pub spared-footprint : (p : Place) → spared p ≡ true → p .measure ≢ 4 → p .measure ≢ 3 → p .measure ≡ 2
-spared-footprint p e n m = eqb→eq (p .measure) 2 (go (eqb (p .measure) 2) (rw (ne-eqb (p .measure) 4 n, ne-eqb (p .measure) 3 m) at e))
+pub spared-footprint : (p : Place) → spared (p .settings) ≡ true → p .settings .measure ≢ 4 → p .settings .measure ≢ 3
+    → p .settings .measure ≡ 2
+spared-footprint p e n m = eqb→eq (p .settings .measure) 2 (go (eqb (p .settings .measure) 2)
+    (rw (ne-eqb (p .settings .measure) 4 n, ne-eqb (p .settings .measure) 3 m) at e))
   where
     go : (x : Bool) → (x || (false || false)) ≡ true → T x
     go true e = tt
     go false e = absurd (false≢true e)
 
 -- a table of links has n words
-pub joined-pass : (p : Place) (a : List ℕ) → p .measure ≢ 4
-    → passOf 0 (p .measure) (p .boards) (part (p .boards) a (p .limit + 3)) (joinOf (p .measure) (p .boards) (part (p .boards) a (p .start .0)) (part (p .boards) a (p .limit + 1)))
-    ≡ kitOf p .pass (part (widthOf (p .measure) (p .boards)) a (p .limit + 3))
-    (kitOf p .join (part (widthOf (p .measure) (p .boards)) a (p .start .0)) (part (widthOf (p .measure) (p .boards)) a (p .limit + 1)))
-joined-pass p a n = rw (width-links (p .measure) (p .boards) n)
+pub joined-pass : (p : Place) (a : List ℕ) → p .settings .measure ≢ 4
+    → passOf 0 (p .settings .measure) (p .settings .boards) (part (p .settings .boards) a (p .settings .limit + 3)) (joinOf (p .settings .measure)
+    (p .settings .boards) (part (p .settings .boards) a (p .window .start .0)) (part (p .settings .boards) a (p .settings .limit + 1)))
+    ≡ kitOf (p .settings) .pass (part (widthOf (p .settings .measure) (p .settings .boards)) a (p .settings .limit + 3))
+    (kitOf (p .settings) .join (part (widthOf (p .settings .measure) (p .settings .boards)) a (p .window .start .0)) (part (widthOf (p .settings .measure)
+    (p .settings .boards)) a (p .settings .limit + 1)))
+joined-pass p a n = rw (width-links (p .settings .measure) (p .settings .boards) n)

@@ -1,21 +1,21 @@
--- For callers of `step`: a place that is ready takes a pick, and is ready again after it. From step to step the counts grow by 12300 compositions
--- and 4100 tests at most, so 4096 picks from small counts stay below what `Takes` allows. Assumes nothing.
+-- For callers of `step`: a place that is ready takes a pick, and is ready again after it. From step to step the counts grow by
+-- `perPick` at most, so 4096 picks from small counts stay below what `Takes` allows. Assumes nothing.
 use Prim.Native.Nat.{ℕ, _+_, _*_, _≤_, _<_, max}
 use native.Mathlib.Omega.{arith}
 use mathlib.Core.Path.{_≡_, refl, sym, ap}
 use mathlib.Core.Logic.{⊎-elim}
-use mathlib.Core.Bool.{Bool, true, false}
+use mathlib.Core.Bool.{Bool, true, false, cond}
 use mathlib.Core.List.{List}
 use lib.Dec.{eqb}
 use lib.ListN.{length}
 use Rattle.model.specs.Journey.{val}
 use Rattle.model.proofs.Logic.{eq-or}
-use Rattle.measures.specs.Kit.{either, widthOf}
+use Rattle.measures.specs.Kit.{widthOf}
 use Rattle.place.specs.declared.Place.{Place}
-use Rattle.place.specs.Places.{Sound, pickTaken, startMoved}
+use Rattle.place.specs.Places.{Sound, picksTaken, startMoved, perPick, mostCounted}
 use Rattle.steps.specs.Walk.{state, kitOf, entered, tried, cleared, minStep, climbed, ended, maxStep, stepped}
 use Rattle.steps.specs.Fit.{rise, Takes, Ready}
-use Rattle.steps.proofs.Fit.{able-kept}
+use Rattle.steps.proofs.Fit.{able-kept, limit-of}
 use Rattle.model.proofs.Bits.{val-le}
 use Rattle.steps.proofs.Grown.{Grown, grown-on, entered-grown, entered-near, tried-grown, tried-bound}
 use Rattle.steps.proofs.Rises.{climbed-along}
@@ -25,21 +25,24 @@ use Rattle.steps.proofs.Frames.{Frame, stepped-frame, Untouched}
 -- ---- what `step` requires
 
 -- no mark is set before the first pick, so the start moves within the picks taken
-ahead : {p : Place} {words : ℕ} → Ready p words → (x : Bool) → (p .taken .0 ≡ 0 → x ≡ false) → p .start .0 + val x ≤ p .taken .0 + 1
+ahead : {p : Place} {words : ℕ} → Ready p words → (x : Bool) → (p .window .taken .0 ≡ 0 → x ≡ false)
+    → p .window .start .0 + val x ≤ p .window .taken .0 + 1
 ahead {p} r x none =
     let n = r .near in
     let b = r .bound in
-    ⊎-elim (λ (z : p .taken .0 ≡ 0). let v : val x ≡ 0 = ap val (none z) in omega arith)
+    ⊎-elim (λ (z : p .window .taken .0 ≡ 0). let v : val x ≡ 0 = ap val (none z) in omega arith)
     (λ z. let i = r .inside (omega arith) in omega (arith, val-le x))
-    (eq-or (p .taken .0) 0)
+    (eq-or (p .window .taken .0) 0)
 
-pub ahead-passed : {p : Place} {words : ℕ} → Ready p words → p .start .0 + val (p .passed) ≤ p .taken .0 + 1
-ahead-passed {p} r = ahead r (p .passed) (r .none-passed)
+pub ahead-passed : {p : Place} {words : ℕ} → Ready p words → p .window .start .0 + val (p .marks .passed) ≤ p .window .taken .0 + 1
+ahead-passed {p} r = ahead r (p .marks .passed) (r .none-passed)
 
-pub ahead-failed : {p : Place} {words : ℕ} → Ready p words → p .start .0 + val (p .failed) ≤ p .taken .0 + 1
-ahead-failed {p} r = ahead r (p .failed) (r .none-failed)
+pub ahead-failed : {p : Place} {words : ℕ} → Ready p words → p .window .start .0 + val (p .marks .failed) ≤ p .window .taken .0 + 1
+ahead-failed {p} r = ahead r (p .marks .failed) (r .none-failed)
 
-pub step-takes : {p : Place} {words links : ℕ} → Ready p words → p .taken .0 < p .limit → p .compositions .0 ≤ 90000000 → p .tests .0 ≤ 90000000 → p .boards ≡ links → Takes p words links
+pub step-takes : {p : Place} {words links : ℕ} → Ready p words → p .window .taken .0 < p .settings .limit
+    → p .counts .compositions .0 + perPick ≤ mostCounted
+    → p .counts .tests .0 + perPick ≤ mostCounted → p .settings .boards ≡ links → Takes p words links
 step-takes r h c t e = record {
   passed = record { able = r .able; start = r .start; ahead = ahead-passed r; top = omega arith; bound = r .bound; comps = c; tests = t };
   failed = record { able = r .able; start = r .start; ahead = ahead-failed r; top = omega arith; bound = r .bound; comps = c; tests = t };
@@ -47,7 +50,7 @@ step-takes r h c t e = record {
 }
 
 -- what cause 16 leaves is ready, where the area has room
-pub sound-ready : {p : Place} {words : ℕ} → Sound p → (p .limit + 4) * widthOf (p .measure) (p .boards) ≤ words → Ready p words
+pub sound-ready : {p : Place} {words : ℕ} → Sound p → (p .settings .limit + 4) * kitOf (p .settings) .width ≤ words → Ready p words
 sound-ready s room = record {
   able = record { few = s .boards-high; cap = s .limit-high; room = room };
   start = s .start-low;
@@ -58,7 +61,8 @@ sound-ready s room = record {
   none-passed = s .none-passed;
 }
 
-pub sound-takes : {p : Place} {words links : ℕ} → Sound p → (p .limit + 4) * widthOf (p .measure) (p .boards) ≤ words → p .taken .0 < p .limit → p .boards ≡ links → Takes p words links
+pub sound-takes : {p : Place} {words links : ℕ} → Sound p → (p .settings .limit + 4) * kitOf (p .settings) .width ≤ words
+    → p .window .taken .0 < p .settings .limit → p .settings .boards ≡ links → Takes p words links
 sound-takes s room h e =
     let l = s .limit-high in
     let c = s .compositions-high in
@@ -68,21 +72,21 @@ sound-takes s room h e =
 -- ---- what `step` leaves
 
 pub record Stepped (p q : Place) : Type 0 where
-  pub boards : q .boards ≡ p .boards
-  pub measure : q .measure ≡ p .measure
-  pub limit : q .limit ≡ p .limit
-  pub taken : q .taken .0 ≡ p .taken .0 + 1
-  pub start : p .start .0 ≤ q .start .0
-  pub near : q .start .0 ≤ q .boundary .0 + 1
-  pub bound : q .boundary .0 ≤ q .taken .0
-  pub inside : q .start .0 ≤ q .taken .0
-  pub comps : q .compositions .0 ≤ p .compositions .0 + 12300
-  pub tests : q .tests .0 ≤ p .tests .0 + 4100
+  pub settings : q .settings ≡ p .settings
+  pub taken : q .window .taken .0 ≡ p .window .taken .0 + 1
+  pub start : p .window .start .0 ≤ q .window .start .0
+  pub near : q .window .start .0 ≤ q .window .boundary .0 + 1
+  pub bound : q .window .boundary .0 ≤ q .window .taken .0
+  pub inside : q .window .start .0 ≤ q .window .taken .0
+  pub comps : q .counts .compositions .0 ≤ p .counts .compositions .0 + perPick
+  pub tests : q .counts .tests .0 ≤ p .counts .tests .0 + perPick
 
 -- from the place with its pick taken and its start moved
-stepped-by : (p : Place) {q : Place} (k : ℕ) {i c t : ℕ} → Grown (startMoved (pickTaken p) k) q i c t → p .boundary .0 ≤ p .taken .0 → p .start .0 + k + i ≤ p .taken .0 + 1 → q .start .0 ≤ q .boundary .0 + 1
-    → c ≤ 12300 → t ≤ 4100 → Stepped p q
-unfolding startMoved pickTaken
+stepped-by : (p : Place) {q : Place} (k : ℕ) {i c t : ℕ} → Grown (startMoved (picksTaken p 1) k) q i c t
+    → p .window .boundary .0 ≤ p .window .taken .0 → p .window .start .0 + k + i ≤ p .window .taken .0 + 1
+    → q .window .start .0 ≤ q .window .boundary .0 + 1
+    → c ≤ perPick → t ≤ perPick → Stepped p q
+unfolding startMoved picksTaken
 stepped-by p k g b s n c t =
     let gs = g .start in
     let gm = g .taken in
@@ -90,9 +94,7 @@ stepped-by p k g b s n c t =
     let gt = g .tests in
     let gb = g .bound (omega arith) in
     record {
-      boards = g .boards;
-      measure = g .measure;
-      limit = g .limit;
+      settings = g .settings;
       taken = g .taken;
       start = omega arith;
       near = n;
@@ -102,53 +104,57 @@ stepped-by p k g b s n c t =
       tests = omega arith;
     }
 
-module _ (p : Place) (a w : List ℕ) {words : ℕ} (r : Ready p words) (h : p .taken .0 < p .limit) where
+module _ (p : Place) (a w : List ℕ) {words : ℕ} (r : Ready p words) (h : p .window .taken .0 < p .settings .limit) where
   -- entered and tested
-  tried-on : (k : ℕ) → Grown (startMoved (pickTaken p) k) (tried (kitOf p) (entered (kitOf p) k w (state p a)) .place) (0 + 0) (p .limit + 1 + 1) (0 + 1)
-  tried-on k = grown-on (entered-grown (kitOf p) k w (state p a) (omega arith)) (tried-grown (kitOf p) (entered (kitOf p) k w (state p a)))
+  tried-on : (k : ℕ) → Grown (startMoved (picksTaken p 1) k) (tried (kitOf (p .settings)) (entered (kitOf (p .settings)) k w (state p a)) .place) (0 + 0)
+      (p .settings .limit + 1 + 1) (0 + 1)
+  tried-on k = grown-on (entered-grown (kitOf (p .settings)) k w (state p a) (omega arith)) (tried-grown (kitOf (p .settings))
+      (entered (kitOf (p .settings)) k w (state p a)))
 
-  tried-near : (k : ℕ) → p .start .0 + k ≤ p .taken .0 + 1
-      → tried (kitOf p) (entered (kitOf p) k w (state p a)) .place .start .0 ≤ tried (kitOf p) (entered (kitOf p) k w (state p a)) .place .boundary .0 + 1
+  tried-near : (k : ℕ) → p .window .start .0 + k ≤ p .window .taken .0 + 1
+      → tried (kitOf (p .settings)) (entered (kitOf (p .settings)) k w (state p a)) .place .window .start .0 ≤ tried (kitOf (p .settings))
+      (entered (kitOf (p .settings)) k w (state p a)) .place .window .boundary .0 + 1
   tried-near k low =
-      let st = entered (kitOf p) k w (state p a) in
-      let n = entered-near (kitOf p) k w (state p a) low in
-      let s = tried-grown (kitOf p) st .start in
-      let b = tried-bound (kitOf p) st in
+      let st = entered (kitOf (p .settings)) k w (state p a) in
+      let n = entered-near (kitOf (p .settings)) k w (state p a) low in
+      let s = tried-grown (kitOf (p .settings)) st .start in
+      let b = tried-bound (kitOf (p .settings)) st in
       omega arith
 
-  min-place : Stepped p (minStep (kitOf p) w (state p a) .place)
+  min-place : Stepped p (minStep (kitOf (p .settings)) w (state p a) .place)
   unfolding minStep cleared
   min-place =
-      let k = val (p .passed) in
+      let k = val (p .marks .passed) in
       let cap = r .able .cap in
       let s = ahead-passed r in
       stepped-by p k (tried-on k) (r .bound) (omega arith) (tried-near k s) (omega arith) (omega arith)
 
-  climbed-place : Stepped p (climbed (kitOf p) (tried (kitOf p) (entered (kitOf p) (val (p .failed)) w (state p a))) .place)
-  unfolding startMoved pickTaken
+  climbed-place : Stepped p (climbed (kitOf (p .settings)) (tried (kitOf (p .settings)) (entered (kitOf (p .settings)) (val (p .marks .failed)) w
+      (state p a))) .place)
+  unfolding startMoved picksTaken
   climbed-place =
-      let k = val (p .failed) in
-      let st = tried (kitOf p) (entered (kitOf p) k w (state p a)) in
+      let k = val (p .marks .failed) in
+      let st = tried (kitOf (p .settings)) (entered (kitOf (p .settings)) k w (state p a)) in
       let cap = r .able .cap in
       let low = r .start in
       let s = ahead-failed r in
       let g = tried-on k in
       let gs = g .start in
       let gm = g .taken in
-      let gl = g .limit in
-      let u = climbed-along (kitOf p) st (omega arith) (omega arith) in
+      let gl = limit-of (g .settings) in
+      let u = climbed-along (kitOf (p .settings)) st (omega arith) (omega arith) in
       let most = u .1 .0 in
       stepped-by p k (grown-on g (u .1 .1 .grown)) (r .bound) (omega arith) (u .1 .1 .near (tried-near k s)) (omega arith) (omega arith)
 
-  max-place-by : (x : Bool) → Stepped p (either x (state (pickTaken p) a) (cleared (kitOf p) (climbed (kitOf p) (tried (kitOf p) (entered (kitOf p) (val (p .failed)) w (state p a))))) .place)
-  unfolding cleared pickTaken
+  max-place-by : (x : Bool)
+      → Stepped p (cond x (state (picksTaken p 1) a) (cleared (kitOf (p .settings)) (climbed (kitOf (p .settings)) (tried (kitOf (p .settings))
+      (entered (kitOf (p .settings)) (val (p .marks .failed)) w (state p a))))) .place)
+  unfolding cleared picksTaken
   max-place-by true =
       let n = r .near in
       let b = r .bound in
       record {
-        boards = refl;
-        measure = refl;
-        limit = refl;
+        settings = refl;
         taken = refl;
         start = omega arith;
         near = n;
@@ -159,25 +165,27 @@ module _ (p : Place) (a w : List ℕ) {words : ℕ} (r : Ready p words) (h : p .
       }
   max-place-by false = climbed-place
 
-  max-place : Stepped p (maxStep (kitOf p) w (state p a) .place)
+  max-place : Stepped p (maxStep (kitOf (p .settings)) w (state p a) .place)
   unfolding maxStep
   max-place = max-place-by (ended p)
 
-  stepped-place-by : (x : Bool) → Stepped p (either x (maxStep (kitOf p) w (state p a)) (minStep (kitOf p) w (state p a)) .place)
+  stepped-place-by : (x : Bool) → Stepped p (cond x (maxStep (kitOf (p .settings)) w (state p a)) (minStep (kitOf (p .settings)) w (state p a)) .place)
   stepped-place-by true = max-place
   stepped-place-by false = min-place
 
-  pub stepped-grown : Stepped p (stepped (kitOf p) w (state p a) .place)
+  pub stepped-grown : Stepped p (stepped (kitOf (p .settings)) w (state p a) .place)
   unfolding stepped
-  stepped-grown = stepped-place-by (eqb (p .measure) 1)
+  stepped-grown = stepped-place-by (eqb (p .settings .measure) 1)
 
 -- the parts of the area that a pick may write; the others and the words beyond them stay
-pub stepped-framed : (p : Place) (a w : List ℕ) → Ready p (length a) → p .taken .0 < p .limit → p .boards ≡ length w
-    → Frame (kitOf p) (state p a) (stepped (kitOf p) w (state p a)) (Untouched (max (p .start .0 + rise p) (p .boundary .0 + 2)) (p .taken .0 + 1) (p .limit))
+pub stepped-framed : (p : Place) (a w : List ℕ) → Ready p (length a) → p .window .taken .0 < p .settings .limit → p .settings .boards ≡ length w
+    → Frame (kitOf (p .settings)) (state p a) (stepped (kitOf (p .settings)) w (state p a)) (Untouched (max (p .window .start .0 + rise p)
+    (p .window .boundary .0 + 2)) (p .window .taken .0 + 1) (p .settings .limit))
 stepped-framed p a w r h e =
     let n = r .near in
     let b = r .bound in
-    stepped-frame (kitOf p) (kit-wide (p .measure) (p .boards)) w (state p a) (r .able .room) (r .start) (omega arith) h (own-wide 31 (p .measure) (p .boards) (p .taken .0 + 1) w (sym e))
+    stepped-frame (kitOf (p .settings)) (kit-wide (p .settings .measure) (p .settings .boards)) w (state p a) (r .able .room) (r .start) (omega arith) h
+    (own-wide 31 (p .settings .measure) (p .settings .boards) (p .window .taken .0 + 1) w (sym e))
 
 pub ready-on : {p q : Place} {words : ℕ} → Stepped p q → Ready p words → Ready q words
 ready-on s r =
@@ -186,7 +194,7 @@ ready-on s r =
     let l = s .start in
     let rl = r .start in
     record {
-      able = able-kept (s .boards) (s .measure) (s .limit) (r .able);
+      able = able-kept (s .settings) (r .able);
       start = omega arith;
       near = s .near;
       bound = s .bound;

@@ -1,32 +1,31 @@
 -- The rises of one pick under measure 1: what they do to the place, and the loop that makes them. Assumes nothing.
-use Prim.Native.Nat.{ℕ, zero, suc, _+_, _-_, _≤_, _<_}
+use Prim.Native.Nat.{ℕ, zero, suc, _+_, _-_, _*_, _≤_, _<_}
 use native.Mathlib.Nat.{le-refl}
 use native.Mathlib.Omega.{arith}
 use mathlib.Core.Path.{_≡_, refl, sym, ap, ap₂, _∙_, subst}
 use mathlib.Core.Logic.{⊎-elim}
-use mathlib.Core.Bool.{Bool, true, false}
+use mathlib.Core.Bool.{Bool, true, false, cond}
 use mathlib.Core.List.{List}
 use lib.ListN.{length}
 use Rattle.model.proofs.Logic.{le-or-lt}
-use Rattle.measures.specs.Kit.{Kit, either}
+use Rattle.measures.specs.Kit.{Kit}
 use Rattle.place.specs.declared.Place.{Place}
 use Rattle.steps.specs.Walk.{State, state, kitOf, again, climb, climbed}
 use Rattle.steps.specs.Fit.{Fit, Does}
-use Rattle.steps.proofs.Fit.{does-kit}
+use Rattle.place.specs.Places.{perLadder}
+use Rattle.steps.proofs.Fit.{limit-of, does-kit}
 use Rattle.steps.proofs.Grown.{Grown, fit-grown, again-grown, again-once}
 
 -- after i rises from p: each charges one composition for its window, and one of them may have built the left ladder
 pub record Along (p q : Place) (i : ℕ) : Type 0 where
-  pub grown : Grown p q i (p .limit + i) i
-  pub near : p .start .0 ≤ p .boundary .0 + 1 → q .start .0 ≤ q .boundary .0 + 1
-  pub early : q .boundary .0 < q .taken .0 → q .compositions .0 ≤ p .compositions .0 + i
+  pub grown : Grown p q i (p .settings .limit + i) i
+  pub near : p .window .start .0 ≤ p .window .boundary .0 + 1 → q .window .start .0 ≤ q .window .boundary .0 + 1
+  pub early : q .window .boundary .0 < q .window .taken .0 → q .counts .compositions .0 ≤ p .counts .compositions .0 + i
 
 pub along-none : (p : Place) → Along p p 0
 along-none p = record {
   grown = record {
-    boards = refl;
-    measure = refl;
-    limit = refl;
+    settings = refl;
     taken = refl;
     start = omega arith;
     bound = λ x. x;
@@ -38,11 +37,12 @@ along-none p = record {
 }
 
 -- one rise more, while s is below m
-pub along-more : {p q : Place} {i : ℕ} (K : Kit) (a : List ℕ) → p .taken .0 ≤ p .limit → p .start .0 + i < p .taken .0 → Along p q i → Along p (again K (state q a) .place) (i + 1)
+pub along-more : {p q : Place} {i : ℕ} (K : Kit) (a : List ℕ) → p .window .taken .0 ≤ p .settings .limit
+    → p .window .start .0 + i < p .window .taken .0 → Along p q i → Along p (again K (state q a) .place) (i + 1)
 along-more {p} {q} {i} K a top low h =
     let g = h .grown in
     let gm = g .taken in
-    let gl = g .limit in
+    let gl = limit-of (g .settings) in
     let gs = g .start in
     let gc = g .comps in
     let gt = g .tests in
@@ -53,15 +53,13 @@ along-more {p} {q} {i} K a top low h =
     let o = again-once K (state q a) (omega arith) in
     record {
       grown = record {
-        boards = n .boards ∙ g .boards;
-        measure = n .measure ∙ g .measure;
-        limit = n .limit ∙ g .limit;
+        settings = n .settings ∙ g .settings;
         taken = n .taken ∙ g .taken;
         start = omega arith;
         bound = λ x. let y = g .bound x in let w = n .bound (omega arith) in omega arith;
-        comps = ⊎-elim (λ (f : q .taken .0 ≤ q .boundary .0). let z = o .full f in omega arith)
-            (λ (f : q .boundary .0 < q .taken .0). let z = h .early f in omega arith)
-            (le-or-lt (q .taken .0) (q .boundary .0));
+        comps = ⊎-elim (λ (f : q .window .taken .0 ≤ q .window .boundary .0). let z = o .full f in omega arith)
+            (λ (f : q .window .boundary .0 < q .window .taken .0). let z = h .early f in omega arith)
+            (le-or-lt (q .window .taken .0) (q .window .boundary .0));
         tests = omega arith;
       };
       near = λ x. o .near;
@@ -72,23 +70,25 @@ along-more {p} {q} {i} K a top low h =
 abbrev Risen : Place → ℕ → Place → Type 0
 Risen p most q = (j : ℕ) × ((j ≤ most) × Along p q j)
 
-pub climb-along : (K : Kit) (k i : ℕ) (p : Place) (st : State) → p .taken .0 ≤ p .limit → p .start .0 + (i + k) ≡ p .taken .0 → Along p (st .place) i → Risen p (i + k) (climb K k st .place)
+pub climb-along : (K : Kit) (k i : ℕ) (p : Place) (st : State) → p .window .taken .0 ≤ p .settings .limit
+    → p .window .start .0 + (i + k) ≡ p .window .taken .0 → Along p (st .place) i → Risen p (i + k) (climb K k st .place)
 unfolding climb
 climb-along K zero i p st top row h = (i, (omega arith, h))
 climb-along K (suc k) i p st top row h =
     let r = climb-along K k (i + 1) p (again K st) top (omega arith) (along-more K (st .area) top (omega arith) h) in
     let low = r .1 .0 in
-    go (st .place .passed) (r .0, (omega arith, r .1 .1))
+    go (st .place .marks .passed) (r .0, (omega arith, r .1 .1))
   where
-    go : (x : Bool) → Risen p (i + suc k) (climb K k (again K st) .place) → Risen p (i + suc k) (either x st (climb K k (again K st)) .place)
+    go : (x : Bool) → Risen p (i + suc k) (climb K k (again K st) .place) → Risen p (i + suc k) (cond x st (climb K k (again K st)) .place)
     go true r = (i, (omega arith, h))
     go false r = r
 
-pub climbed-along : (K : Kit) (st : State) → st .place .start .0 ≤ st .place .taken .0 → st .place .taken .0 ≤ st .place .limit
-    → Risen (st .place) (st .place .taken .0 - st .place .start .0) (climbed K st .place)
+pub climbed-along : (K : Kit) (st : State) → st .place .window .start .0 ≤ st .place .window .taken .0
+    → st .place .window .taken .0 ≤ st .place .settings .limit
+    → Risen (st .place) (st .place .window .taken .0 - st .place .window .start .0) (climbed K st .place)
 unfolding climbed
 climbed-along K st low top =
-    let k = st .place .taken .0 - st .place .start .0 in
+    let k = st .place .window .taken .0 - st .place .window .start .0 in
     let r = climb-along K k 0 (st .place) st top (omega arith) (along-none (st .place)) in
     let rl = r .1 .0 in
     (r .0, (omega arith, r .1 .1))
@@ -96,23 +96,20 @@ climbed-along K st low top =
 -- ---- the loop: what is left from here makes the whole
 
 pub record Climb (p₀ : Place) (a₀ : List ℕ) (k₀ : ℕ) (p : Place) (a : List ℕ) (k : ℕ) : Type 0 where
-  pub fit₀ : Fit p₀ (length a₀)
-  pub comps₀ : p₀ .compositions .0 ≤ 95000000
-  pub tests₀ : p₀ .tests .0 ≤ 95000000
+  pub fit₀ : Fit p₀ (length a₀) (3 * perLadder)
   pub long : length a ≡ length a₀
-  pub whole : k₀ ≡ p₀ .taken .0 - p₀ .start .0
+  pub whole : k₀ ≡ p₀ .window .taken .0 - p₀ .window .start .0
   pub down : k ≤ k₀
   pub along : Along p₀ p (k₀ - k)
-  pub rest : climb (kitOf p₀) k₀ (state p₀ a₀) ≡ climb (kitOf p₀) k (state p a)
+  pub rest : climb (kitOf (p₀ .settings)) k₀ (state p₀ a₀) ≡ climb (kitOf (p₀ .settings)) k (state p a)
 
-pub climb-start : (p : Place) (a : List ℕ) → Fit p (length a) → p .compositions .0 ≤ 95000000 → p .tests .0 ≤ 95000000 → Climb p a (p .taken .0 - p .start .0) p a (p .taken .0 - p .start .0)
-climb-start p a f c t =
-    let k = p .taken .0 - p .start .0 in
+pub climb-start : (p : Place) (a : List ℕ) → Fit p (length a) (3 * perLadder)
+    → Climb p a (p .window .taken .0 - p .window .start .0) p a (p .window .taken .0 - p .window .start .0)
+climb-start p a f =
+    let k = p .window .taken .0 - p .window .start .0 in
     let e : 0 ≡ k - k = omega arith in
     record {
       fit₀ = f;
-      comps₀ = c;
-      tests₀ = t;
       long = refl;
       whole = refl;
       down = le-refl k;
@@ -122,7 +119,7 @@ climb-start p a f c t =
 
 -- what the next rise requires
 pub climb-takes : {p₀ p : Place} {a₀ a : List ℕ} {k₀ k : ℕ} → Climb p₀ a₀ k₀ p a k → 0 < k
-    → Fit p (length a) × ((p .start .0 < p .taken .0) × ((p .compositions .0 ≤ 98000000) × (p .tests .0 ≤ 98000000)))
+    → Fit p (length a) perLadder × (p .window .start .0 < p .window .taken .0)
 climb-takes {p₀} {p} {a₀} {a} c h =
     let f = c .fit₀ in
     let fi = f .inside in
@@ -130,21 +127,17 @@ climb-takes {p₀} {p} {a₀} {a} c h =
     let fa = f .able .cap in
     let w = c .whole in
     let d = c .down in
-    let cc₀ = c .comps₀ in
-    let ct₀ = c .tests₀ in
     let g = c .along .grown in
     let gs = g .start in
     let gm = g .taken in
-    let gc = g .comps in
-    let gt = g .tests in
-    (subst (λ (n : ℕ). Fit p n) (sym (c .long)) (fit-grown g (omega arith) (omega arith) (omega arith) f), (omega arith, (omega arith, omega arith)))
+    (subst (λ (n : ℕ). Fit p n perLadder) (sym (c .long)) (fit-grown g (omega arith) (omega arith) (omega arith) f), omega arith)
 
-climb-more : (K : Kit) (k : ℕ) (st : State) → 0 < k → st .place .passed ≡ false → climb K k st ≡ climb K (k - 1) (again K st)
+climb-more : (K : Kit) (k : ℕ) (st : State) → 0 < k → st .place .marks .passed ≡ false → climb K k st ≡ climb K (k - 1) (again K st)
 unfolding climb
 climb-more K zero st h e = absurd (omega arith)
 climb-more K (suc k) st h e = let g : suc k - 1 ≡ k = omega arith in rw (e, g)
 
-climb-still : (K : Kit) (k : ℕ) (st : State) → st .place .passed ≡ true → climb K k st ≡ st
+climb-still : (K : Kit) (k : ℕ) (st : State) → st .place .marks .passed ≡ true → climb K k st ≡ st
 unfolding climb
 climb-still K zero st e = refl
 climb-still K (suc k) st e = rw e
@@ -154,37 +147,40 @@ unfolding climb
 climb-none K zero st e = refl
 climb-none K (suc k) st e = absurd (omega arith)
 
-pub climb-turn : {p₀ p q : Place} {a₀ a b : List ℕ} {k₀ k : ℕ} → Climb p₀ a₀ k₀ p a k → 0 < k → p .passed ≡ false → Does (again (kitOf p)) p a q b → length b ≡ length a → Climb p₀ a₀ k₀ q b (k - 1)
+pub climb-turn : {p₀ p q : Place} {a₀ a b : List ℕ} {k₀ k : ℕ} → Climb p₀ a₀ k₀ p a k → 0 < k → p .marks .passed ≡ false
+    → Does (again (kitOf (p .settings))) p a q b → length b ≡ length a → Climb p₀ a₀ k₀ q b (k - 1)
 climb-turn {p₀} {p} {q} {a₀} {a} {b} {k₀} {k} c h e d l =
     let f = c .fit₀ in
     let fi = f .inside in
     let w = c .whole in
     let dn = c .down in
     let g = c .along .grown in
-    let d′ : Does (again (kitOf p₀)) p a q b = does-kit again p p₀ (g .measure) (g .boards) d in
-    let e₁ : again (kitOf p₀) (state p a) ≡ state q b = ap₂ state (sym (d′ .0)) (sym (d′ .1)) in
+    let d′ : Does (again (kitOf (p₀ .settings))) p a q b = does-kit again p p₀ (g .settings) d in
+    let e₁ : again (kitOf (p₀ .settings)) (state p a) ≡ state q b = ap₂ state (sym (d′ .0)) (sym (d′ .1)) in
     let n : k₀ - k + 1 ≡ k₀ - (k - 1) = omega arith in
-    let m : Along p₀ (again (kitOf p₀) (state p a) .place) (k₀ - k + 1) = along-more (kitOf p₀) a (f .top) (omega arith) (c .along) in
+    let m : Along p₀ (again (kitOf (p₀ .settings)) (state p a) .place) (k₀ - k + 1) = along-more (kitOf (p₀ .settings)) a (f .top) (omega arith)
+    (c .along) in
     record {
       fit₀ = f;
-      comps₀ = c .comps₀;
-      tests₀ = c .tests₀;
       long = l ∙ c .long;
       whole = c .whole;
       down = omega arith;
       along = subst (λ (i : ℕ). Along p₀ q i) n (subst (λ (x : Place). Along p₀ x (k₀ - k + 1)) (sym (d′ .0)) m);
-      rest = c .rest ∙ climb-more (kitOf p₀) k (state p a) h e ∙ ap (climb (kitOf p₀) (k - 1)) e₁;
+      rest = c .rest ∙ climb-more (kitOf (p₀ .settings)) k (state p a) h e ∙ ap (climb (kitOf (p₀ .settings)) (k - 1)) e₁;
     }
 
-climb-end : {p₀ p : Place} {a₀ a : List ℕ} {k₀ k : ℕ} → Climb p₀ a₀ k₀ p a k → climb (kitOf p₀) k (state p a) ≡ state p a → Does (climbed (kitOf p₀)) p₀ a₀ p a
+climb-end : {p₀ p : Place} {a₀ a : List ℕ} {k₀ k : ℕ} → Climb p₀ a₀ k₀ p a k
+    → climb (kitOf (p₀ .settings)) k (state p a) ≡ state p a → Does (climbed (kitOf (p₀ .settings))) p₀ a₀ p a
 unfolding climbed
 climb-end {p₀} {p} {a₀} {a} {k₀} {k} c e =
-    let g : climb (kitOf p₀) (p₀ .taken .0 - p₀ .start .0) (state p₀ a₀) ≡ state p a =
-    ap (λ (i : ℕ). climb (kitOf p₀) i (state p₀ a₀)) (sym (c .whole)) ∙ c .rest ∙ e in
+    let g : climb (kitOf (p₀ .settings)) (p₀ .window .taken .0 - p₀ .window .start .0) (state p₀ a₀) ≡ state p a =
+    ap (λ (i : ℕ). climb (kitOf (p₀ .settings)) i (state p₀ a₀)) (sym (c .whole)) ∙ c .rest ∙ e in
     (sym (ap (λ (x : State). x .place) g), sym (ap (λ (x : State). x .area) g))
 
-pub climb-passed : {p₀ p : Place} {a₀ a : List ℕ} {k₀ k : ℕ} → Climb p₀ a₀ k₀ p a k → p .passed ≡ true → Does (climbed (kitOf p₀)) p₀ a₀ p a
-climb-passed {p₀} {p} {a₀} {a} {k₀} {k} c e = climb-end c (climb-still (kitOf p₀) k (state p a) e)
+pub climb-passed : {p₀ p : Place} {a₀ a : List ℕ} {k₀ k : ℕ} → Climb p₀ a₀ k₀ p a k → p .marks .passed ≡ true
+    → Does (climbed (kitOf (p₀ .settings))) p₀ a₀ p a
+climb-passed {p₀} {p} {a₀} {a} {k₀} {k} c e = climb-end c (climb-still (kitOf (p₀ .settings)) k (state p a) e)
 
-pub climb-over : {p₀ p : Place} {a₀ a : List ℕ} {k₀ k : ℕ} → Climb p₀ a₀ k₀ p a k → k ≤ 0 → Does (climbed (kitOf p₀)) p₀ a₀ p a
-climb-over {p₀} {p} {a₀} {a} {k₀} {k} c e = climb-end c (climb-none (kitOf p₀) k (state p a) (omega arith))
+pub climb-over : {p₀ p : Place} {a₀ a : List ℕ} {k₀ k : ℕ} → Climb p₀ a₀ k₀ p a k → k ≤ 0
+    → Does (climbed (kitOf (p₀ .settings))) p₀ a₀ p a
+climb-over {p₀} {p} {a₀} {a} {k₀} {k} c e = climb-end c (climb-none (kitOf (p₀ .settings)) k (state p a) (omega arith))

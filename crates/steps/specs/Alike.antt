@@ -13,10 +13,13 @@ use Rattle.steps.specs.Walk.{ended}
 -- Two areas that a walk at the place p cannot tell apart. Steps within a pick keep this as it stands; from pick to pick it is kept up to the end of
 -- measure 1, after which m rises and no part is written: `StillAlike` of the proofs is what a whole run keeps.
 pub record Alike (p : Place) (a b : List ℕ) : Type 0 where
-  pub picks : (i : ℕ) → 1 ≤ i → i ≤ p .taken .0 → part (widthOf (p .measure) (p .boards)) a i ≡ part (widthOf (p .measure) (p .boards)) b i
-  pub right : 1 ≤ p .taken .0 → part (widthOf (p .measure) (p .boards)) a (p .limit + 1) ≡ part (widthOf (p .measure) (p .boards)) b (p .limit + 1)
-  pub footprint : part (widthOf (p .measure) (p .boards)) a (p .limit + 3) ≡ part (widthOf (p .measure) (p .boards)) b (p .limit + 3)
+  pub picks : (i : ℕ) → 1 ≤ i → i ≤ p .window .taken .0 → part (widthOf (p .settings .measure) (p .settings .boards)) a i
+      ≡ part (widthOf (p .settings .measure) (p .settings .boards)) b i
+  pub right : 1 ≤ p .window .taken .0 → part (widthOf (p .settings .measure) (p .settings .boards)) a (p .settings .limit + 1)
+      ≡ part (widthOf (p .settings .measure) (p .settings .boards)) b (p .settings .limit + 1)
+  pub footprint : part (widthOf (p .settings .measure) (p .settings .boards)) a (p .settings .limit + 3)
+      ≡ part (widthOf (p .settings .measure) (p .settings .boards)) b (p .settings .limit + 3)
 
 -- measure 1 after its end: a pick raises m only, and its own part is not written
 abbrev pub finished : Place → Bool
-finished p = eqb (p .measure) 1 && ended p
+finished p = eqb (p .settings .measure) 1 && ended p

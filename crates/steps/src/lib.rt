@@ -4,9 +4,10 @@
 // after.
 ghost use mathlib.Core.Path.{_≡_};
 ghost use mathlib.Core.Bool.{true, not, _&&_};
-ghost use Prim.Native.Nat.{_+_, _-_, _≤_, _<_};
+ghost use Prim.Native.Nat.{_+_, _-_, _*_, _≤_, _<_};
 ghost use lib.ListN.{length};
 ghost use Rattle.model.specs.Journey.{val};
+ghost use Rattle.place.specs.Places.{perLadder};
 ghost use Rattle.area.specs.Parts.{composeAt, copyAt, zeroAt};
 ghost use Rattle.steps.specs.Walk.{state, kitOf, ladder, rebuilt, joined, extended, entered, windowed, judged, tried, raised, again, climbed};
 ghost use Rattle.steps.specs.Alike.{finished};
@@ -18,32 +19,32 @@ use place::Place;
 // ---- parts, with the measure and the boards of the place
 
 fn compose_at(p: Place, area: &mut [u32], right: &mut [u32], d: usize, r: usize)
-    requires { ⌜ Able p (length (now area)) × Lends p (length (now right)) × In p d × In p r ⌝ }
-    ensures { λ _. ⌜ now (area .exit) ≡ composeAt (kitOf p) (now (area .entry)) d d r ⌝ }
+    requires { ⌜ Able (p .settings) (length (now area)) × Lends (p .settings) (length (now right)) × In (p .settings) d × In (p .settings) r ⌝ }
+    ensures { λ _. ⌜ now (area .exit) ≡ composeAt (kitOf (p .settings)) (now (area .entry)) d d r ⌝ }
 {
-    area::compose_onto(area, right, p.measure, p.boards, d, r);
+    area::compose_onto(area, right, p.settings.measure, p.settings.boards, d, r);
 }
 
 fn copy_at(p: Place, area: &mut [u32], d: usize, l: usize)
-    requires { ⌜ Able p (length (now area)) × (In p d × In p l) ⌝ }
-    ensures { λ _. ⌜ now (area .exit) ≡ copyAt (kitOf p) (now (area .entry)) d l ⌝ }
+    requires { ⌜ Able (p .settings) (length (now area)) × (In (p .settings) d × In (p .settings) l) ⌝ }
+    ensures { λ _. ⌜ now (area .exit) ≡ copyAt (kitOf (p .settings)) (now (area .entry)) d l ⌝ }
 {
-    area::copy_part(area, p.measure, p.boards, d, l);
+    area::copy_part(area, p.settings.measure, p.settings.boards, d, l);
 }
 
 fn zero_at(p: Place, area: &mut [u32], d: usize)
-    requires { ⌜ Able p (length (now area)) × In p d ⌝ }
-    ensures { λ _. ⌜ now (area .exit) ≡ zeroAt (kitOf p) (now (area .entry)) d ⌝ }
+    requires { ⌜ Able (p .settings) (length (now area)) × In (p .settings) d ⌝ }
+    ensures { λ _. ⌜ now (area .exit) ≡ zeroAt (kitOf (p .settings)) (now (area .entry)) d ⌝ }
 {
-    area::zero_part(area, p.measure, p.boards, d);
+    area::zero_part(area, p.settings.measure, p.settings.boards, d);
 }
 
 // Part limit + 4 is zero after each pick taken.
 fn clear_spare(p: Place, area: &mut [u32])
-    requires { ⌜ Able p (length (now area)) ⌝ }
-    ensures { λ _. ⌜ now (area .exit) ≡ zeroAt (kitOf p) (now (area .entry)) (p .limit + 4) ⌝ }
+    requires { ⌜ Able (p .settings) (length (now area)) ⌝ }
+    ensures { λ _. ⌜ now (area .exit) ≡ zeroAt (kitOf (p .settings)) (now (area .entry)) (p .settings .limit + 4) ⌝ }
 {
-    let limit = p.limit;
+    let limit = p.settings.limit;
     zero_at(p, area, limit + 4);
 }
 
@@ -51,8 +52,8 @@ fn clear_spare(p: Place, area: &mut [u32])
 
 // From part m - 1 down to part s, each part becomes its composition with the part after it, so that part i holds the window i to m.
 fn build_left(p: Place, area: &mut [u32], right: &mut [u32], s: usize, m: usize)
-    requires { ⌜ Able p (length (now area)) × Lends p (length (now right)) × (1 ≤ s) × (s ≤ m) × (m ≤ p .limit) ⌝ }
-    ensures { λ _. ⌜ now (area .exit) ≡ ladder (kitOf p) (now (area .entry)) m (m - s) ⌝ }
+    requires { ⌜ Able (p .settings) (length (now area)) × Lends (p .settings) (length (now right)) × (1 ≤ s) × (s ≤ m) × (m ≤ p .settings .limit) ⌝ }
+    ensures { λ _. ⌜ now (area .exit) ≡ ladder (kitOf (p .settings)) (now (area .entry)) m (m - s) ⌝ }
 {
     let mut i = m;
     while s < i {
@@ -63,28 +64,36 @@ fn build_left(p: Place, area: &mut [u32], right: &mut [u32], s: usize, m: usize)
 
 // b becomes m: the left ladder is built over s to m, one composition for each part but the last, and the right ladder is empty.
 fn rebuild(p: Place, area: &mut [u32], right: &mut [u32]) -> Place
-    requires { ⌜ Fit p (length (now area)) × Lends p (length (now right)) ⌝ }
-    ensures { λ r. ⌜ Does (rebuilt (kitOf p)) p (now (area .entry)) r (now (area .exit)) ⌝ }
+    requires { ⌜ Fit p (length (now area)) 0 × Lends (p .settings) (length (now right)) ⌝ }
+    ensures { λ r. ⌜ Does (rebuilt (kitOf (p .settings))) p (now (area .entry)) r (now (area .exit)) ⌝ }
 {
-    let m = p.taken;
-    let s = p.start;
-    let limit = p.limit;
+    let m = p.window.taken;
+    let s = p.window.start;
+    let limit = p.settings.limit;
     build_left(p, area, right, s.0, m.0);
     zero_at(p, area, limit + 1);
-    let q = p.turned();
+    let q = p.boundary_moved();
     q.charged(m.0 - s.0)
 }
 
 // Pick m joins the right ladder: a composition, unless that was empty and m is all it holds.
 fn join(p: Place, area: &mut [u32], words: &[u32], right: &mut [u32]) -> Place
-    requires { ⌜ Fit p (length (now area)) × Lends p (length (now right)) × Owns p (now area) (now words) ⌝ }
-    ensures { λ r. ⌜ Does (joined (kitOf p)) p (now (area .entry)) r (now (area .exit)) ⌝ }
+    requires { ⌜ Fit p (length (now area)) 0 × Lends (p .settings) (length (now right)) × Owns p (now area) (now words) ⌝ }
+    ensures { λ r. ⌜ Does (joined (kitOf (p .settings))) p (now (area .entry)) r (now (area .exit)) ⌝ }
 {
-    let m = p.taken;
-    let b = p.boundary;
-    let limit = p.limit;
+    let m = p.window.taken;
+    let b = p.window.boundary;
+    let limit = p.settings.limit;
     if b.0 + 1 < m.0 {
-        area::compose_own(area, words, right, p.measure, p.boards, limit + 1, m.0);
+        area::compose_own(
+            area,
+            words,
+            right,
+            p.settings.measure,
+            p.settings.boards,
+            limit + 1,
+            m.0,
+        );
         return p.charged(1);
     }
     copy_at(p, area, limit + 1, m.0);
@@ -93,11 +102,11 @@ fn join(p: Place, area: &mut [u32], words: &[u32], right: &mut [u32]) -> Place
 
 // The ladders take in pick m. A start beyond b + 1 has left the left ladder behind, and part of the right one: only then is a new one built.
 fn extend(p: Place, area: &mut [u32], words: &[u32], right: &mut [u32]) -> Place
-    requires { ⌜ Fit p (length (now area)) × Lends p (length (now right)) × Owns p (now area) (now words) ⌝ }
-    ensures { λ r. ⌜ Does (extended (kitOf p)) p (now (area .entry)) r (now (area .exit)) ⌝ }
+    requires { ⌜ Fit p (length (now area)) 0 × Lends (p .settings) (length (now right)) × Owns p (now area) (now words) ⌝ }
+    ensures { λ r. ⌜ Does (extended (kitOf (p .settings))) p (now (area .entry)) r (now (area .exit)) ⌝ }
 {
-    let s = p.start;
-    let b = p.boundary;
+    let s = p.window.start;
+    let b = p.window.boundary;
     if b.0 + 1 < s.0 {
         return rebuild(p, area, right);
     }
@@ -106,13 +115,13 @@ fn extend(p: Place, area: &mut [u32], words: &[u32], right: &mut [u32]) -> Place
 
 // A new pick: its own table goes to its part, the start moves by k, and the ladders take it in.
 fn enter(p: Place, area: &mut [u32], words: &[u32], right: &mut [u32], k: usize) -> Place
-    requires { ⌜ Entry p k (length (now area)) × Lends p (length (now right)) × (k ≤ 1) × (p .boards ≡ length (now words)) ⌝ }
-    ensures { λ r. ⌜ Does (entered (kitOf p) k (now (words .entry))) p (now (area .entry)) r (now (area .exit)) ⌝ }
+    requires { ⌜ Entry p k (length (now area)) × Lends (p .settings) (length (now right)) × (k ≤ 1) × (p .settings .boards ≡ length (now words)) ⌝ }
+    ensures { λ r. ⌜ Does (entered (kitOf (p .settings)) k (now (words .entry))) p (now (area .entry)) r (now (area .exit)) ⌝ }
 {
-    let m = p.taken;
+    let m = p.window.taken;
     let next = Pick(m.0 + 1);
-    area::own_part(area, words, p.measure, p.boards, next);
-    let q = p.pick_taken();
+    area::own_part(area, words, p.settings.measure, p.settings.boards, next);
+    let q = p.picks_taken(1);
     let r = q.start_moved(k);
     extend(r, area, words, right)
 }
@@ -121,13 +130,13 @@ fn enter(p: Place, area: &mut [u32], words: &[u32], right: &mut [u32], k: usize)
 
 // The window s to m goes to part limit + 2: a composition where it lies on both ladders, else a copy from the one it lies on.
 fn window(p: Place, area: &mut [u32], right: &mut [u32]) -> Place
-    requires { ⌜ Fit p (length (now area)) × Lends p (length (now right)) ⌝ }
-    ensures { λ r. ⌜ Does (windowed (kitOf p)) p (now (area .entry)) r (now (area .exit)) ⌝ }
+    requires { ⌜ Fit p (length (now area)) 0 × Lends (p .settings) (length (now right)) ⌝ }
+    ensures { λ r. ⌜ Does (windowed (kitOf (p .settings))) p (now (area .entry)) r (now (area .exit)) ⌝ }
 {
-    let m = p.taken;
-    let s = p.start;
-    let b = p.boundary;
-    let limit = p.limit;
+    let m = p.window.taken;
+    let s = p.window.start;
+    let b = p.window.boundary;
+    let limit = p.settings.limit;
     if b.0 < s.0 {
         copy_at(p, area, limit + 2, limit + 1);
         return p;
@@ -142,18 +151,24 @@ fn window(p: Place, area: &mut [u32], right: &mut [u32]) -> Place
 
 // The test of the window in part limit + 2; the area stays as it is.
 fn judge(p: Place, area: &[u32]) -> Place
-    requires { ⌜ Fit p (length (now area)) ⌝ }
-    ensures { λ r. ⌜ r ≡ judged (kitOf p) (state p (now (area .entry))) .place ⌝ }
+    requires { ⌜ Fit p (length (now area)) 0 ⌝ }
+    ensures { λ r. ⌜ r ≡ judged (kitOf (p .settings)) (state p (now (area .entry))) .place ⌝ }
 {
-    let limit = p.limit;
-    let passed = area::passes_part(area, p.measure, p.boards, limit + 3, limit + 2);
+    let limit = p.settings.limit;
+    let passed = area::passes_part(
+        area,
+        p.settings.measure,
+        p.settings.boards,
+        limit + 3,
+        limit + 2,
+    );
     p.tested(passed)
 }
 
 // One test of the window s to m.
 fn try_window(p: Place, area: &mut [u32], right: &mut [u32]) -> Place
-    requires { ⌜ Fit p (length (now area)) × Lends p (length (now right)) × (p .compositions .0 ≤ 99000000) × (p .tests .0 ≤ 99000000) ⌝ }
-    ensures { λ r. ⌜ Does (tried (kitOf p)) p (now (area .entry)) r (now (area .exit)) ⌝ }
+    requires { ⌜ Fit p (length (now area)) 1 × Lends (p .settings) (length (now right)) ⌝ }
+    ensures { λ r. ⌜ Does (tried (kitOf (p .settings))) p (now (area .entry)) r (now (area .exit)) ⌝ }
 {
     let q = window(p, area, right);
     judge(q, area)
@@ -162,25 +177,33 @@ fn try_window(p: Place, area: &mut [u32], right: &mut [u32]) -> Place
 // The same where nobody looks at the area afterwards: a window that lies on one ladder is judged where it is, one of both ladders is composed only under
 // measure 4, and judged without being written under the others.
 fn judge_ladders(p: Place, area: &mut [u32], right: &mut [u32]) -> Place
-    requires { ⌜ Fit p (length (now area)) × Lends p (length (now right)) × (p .compositions .0 ≤ 99000000) × (p .tests .0 ≤ 99000000) × (spared p ≡ true) ⌝ }
-    ensures { λ r. ⌜ Does (bareTried (kitOf p)) p (now (area .entry)) r (now (area .exit)) ⌝ }
+    requires { ⌜ Fit p (length (now area)) 1 × Lends (p .settings) (length (now right)) × (spared (p .settings) ≡ true) ⌝ }
+    ensures { λ r. ⌜ Does (bareTried (kitOf (p .settings))) p (now (area .entry)) r (now (area .exit)) ⌝ }
 {
-    let m = p.taken;
-    let s = p.start;
-    let b = p.boundary;
-    let limit = p.limit;
+    let m = p.window.taken;
+    let s = p.window.start;
+    let b = p.window.boundary;
+    let limit = p.settings.limit;
     if b.0 < s.0 {
-        let passed = area::passes_part(area, p.measure, p.boards, limit + 3, limit + 1);
+        let at = limit + 1;
+        let passed = area::passes_part(area, p.settings.measure, p.settings.boards, limit + 3, at);
         return p.tested(passed);
     }
     if m.0 <= b.0 {
-        let passed = area::passes_part(area, p.measure, p.boards, limit + 3, s.0);
+        let passed = area::passes_part(area, p.settings.measure, p.settings.boards, limit + 3, s.0);
         return p.tested(passed);
     }
-    if p.measure == 4 {
+    if p.settings.measure == 4 {
         return try_window(p, area, right);
     }
-    let passed = area::joined_passes(area, p.measure, p.boards, limit + 3, s.0, limit + 1);
+    let passed = area::joined_passes(
+        area,
+        p.settings.measure,
+        p.settings.boards,
+        limit + 3,
+        s.0,
+        limit + 1,
+    );
     let q = p.charged(1);
     q.tested(passed)
 }
@@ -189,11 +212,11 @@ fn judge_ladders(p: Place, area: &mut [u32], right: &mut [u32]) -> Place
 
 // After a failure the start rises by one; where it then exceeds b + 1, the left ladder is built.
 fn raise(p: Place, area: &mut [u32], right: &mut [u32]) -> Place
-    requires { ⌜ Fit p (length (now area)) × Lends p (length (now right)) × (p .start .0 < p .taken .0) ⌝ }
-    ensures { λ r. ⌜ Does (raised (kitOf p)) p (now (area .entry)) r (now (area .exit)) ⌝ }
+    requires { ⌜ Fit p (length (now area)) 0 × Lends (p .settings) (length (now right)) × (p .window .start .0 < p .window .taken .0) ⌝ }
+    ensures { λ r. ⌜ Does (raised (kitOf (p .settings))) p (now (area .entry)) r (now (area .exit)) ⌝ }
 {
-    let s = p.start;
-    let b = p.boundary;
+    let s = p.window.start;
+    let b = p.window.boundary;
     let q = p.start_moved(1);
     if b.0 + 1 < s.0 + 1 {
         return rebuild(q, area, right);
@@ -203,8 +226,8 @@ fn raise(p: Place, area: &mut [u32], right: &mut [u32]) -> Place
 
 // A rise, and the test repeated.
 fn again(p: Place, area: &mut [u32], right: &mut [u32]) -> Place
-    requires { ⌜ Fit p (length (now area)) × Lends p (length (now right)) × (p .start .0 < p .taken .0) × (p .compositions .0 ≤ 98000000) × (p .tests .0 ≤ 98000000) ⌝ }
-    ensures { λ r. ⌜ Does (again (kitOf p)) p (now (area .entry)) r (now (area .exit)) ⌝ }
+    requires { ⌜ Fit p (length (now area)) perLadder × Lends (p .settings) (length (now right)) × (p .window .start .0 < p .window .taken .0) ⌝ }
+    ensures { λ r. ⌜ Does (again (kitOf (p .settings))) p (now (area .entry)) r (now (area .exit)) ⌝ }
 {
     let q = raise(p, area, right);
     try_window(q, area, right)
@@ -212,15 +235,15 @@ fn again(p: Place, area: &mut [u32], right: &mut [u32]) -> Place
 
 // Until a test passes or the window s = m has failed: k = m - s rises are left.
 fn climb(p: Place, area: &mut [u32], right: &mut [u32]) -> Place
-    requires { ⌜ Fit p (length (now area)) × Lends p (length (now right)) × (p .compositions .0 ≤ 95000000) × (p .tests .0 ≤ 95000000) ⌝ }
-    ensures { λ r. ⌜ Does (climbed (kitOf p)) p (now (area .entry)) r (now (area .exit)) ⌝ }
+    requires { ⌜ Fit p (length (now area)) (3 * perLadder) × Lends (p .settings) (length (now right)) ⌝ }
+    ensures { λ r. ⌜ Does (climbed (kitOf (p .settings))) p (now (area .entry)) r (now (area .exit)) ⌝ }
 {
-    let m = p.taken;
-    let s = p.start;
+    let m = p.window.taken;
+    let s = p.window.start;
     let mut k = m.0 - s.0;
     let mut q = p;
     while 0 < k {
-        if q.passed {
+        if q.marks.passed {
             return q;
         }
         q = again(q, area, right);
@@ -233,12 +256,12 @@ fn climb(p: Place, area: &mut [u32], right: &mut [u32]) -> Place
 pub fn is_finished(p: Place) -> bool
     ensures { λ r. ⌜ r ≡ finished p ⌝ }
 {
-    if p.measure != 1 {
+    if p.settings.measure != 1 {
         return false;
     }
-    let m = p.taken;
+    let m = p.window.taken;
     if 0 < m.0 {
-        return !p.passed;
+        return !p.marks.passed;
     }
     false
 }
@@ -249,10 +272,10 @@ pub fn is_finished(p: Place) -> bool
 fn moved_by(p: Place) -> usize
     ensures { λ r. ⌜ r ≡ rise p ⌝ }
 {
-    if p.measure == 1 {
-        return one_if(p.failed);
+    if p.settings.measure == 1 {
+        return one_if(p.marks.failed);
     }
-    one_if(p.passed)
+    one_if(p.marks.passed)
 }
 
 fn one_if(x: bool) -> usize
@@ -263,18 +286,18 @@ fn one_if(x: bool) -> usize
 
 // Whether the step ends with the test: the area is not kept, and the measure makes one test a pick.
 fn is_spared(p: Place, kept: bool) -> bool
-    ensures { λ r. ⌜ r ≡ (not kept && spared p) ⌝ }
+    ensures { λ r. ⌜ r ≡ (not kept && spared (p .settings)) ⌝ }
 {
     if kept {
         return false;
     }
-    if p.measure == 2 {
+    if p.settings.measure == 2 {
         return true;
     }
-    if p.measure == 3 {
+    if p.settings.measure == 3 {
         return true;
     }
-    if p.measure == 4 {
+    if p.settings.measure == 4 {
         return true;
     }
     false
@@ -283,11 +306,11 @@ fn is_spared(p: Place, kept: bool) -> bool
 // The start moves on and one test follows; under measure 1 the start rises while tests fail, and after the end only m does. Where
 // the area is not kept, under measures 2 to 4, neither the window's part nor part limit + 4 is written for its own sake.
 pub fn step(p: Place, area: &mut [u32], words: &[u32], right: &mut [u32], kept: bool) -> Place
-    requires { ⌜ Takes p (length (now area)) (length (now words)) × Lends p (length (now right)) ⌝ }
-    ensures { λ r. ⌜ Does (stepBy kept (kitOf p) (now (words .entry))) p (now (area .entry)) r (now (area .exit)) ⌝ }
+    requires { ⌜ Takes p (length (now area)) (length (now words)) × Lends (p .settings) (length (now right)) ⌝ }
+    ensures { λ r. ⌜ Does (stepBy kept (kitOf (p .settings)) (now (words .entry))) p (now (area .entry)) r (now (area .exit)) ⌝ }
 {
     if is_finished(p) {
-        return p.pick_taken();
+        return p.picks_taken(1);
     }
     let k = moved_by(p);
     let q = enter(p, area, words, right, k);
@@ -295,7 +318,7 @@ pub fn step(p: Place, area: &mut [u32], words: &[u32], right: &mut [u32], kept: 
         return judge_ladders(q, area, right);
     }
     let t = try_window(q, area, right);
-    if p.measure == 1 {
+    if p.settings.measure == 1 {
         let r = climb(t, area, right);
         clear_spare(p, area);
         return r;

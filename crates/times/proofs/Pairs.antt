@@ -38,7 +38,8 @@ both true false true d = refl
 both true false false d = refl
 
 module _ (n : ℕ) (t : List ℕ) (u v : ℕ) (below : v < u) where
-  pair-is : noLater (getD t (u * n + v) 0) (getD t (n * n + (v * n + u)) 0) && noLater (getD t (v * n + u) 0) (getD t (n * n + (u * n + v)) 0) ≡ pairInTime n t u v
+  pair-is : noLater (getD t (u * n + v) 0) (getD t (n * n + (v * n + u)) 0) && noLater (getD t (v * n + u) 0) (getD t (n * n + (u * n + v)) 0)
+      ≡ pairInTime n t u v
   unfolding noLater pairInTime inTime
   pair-is =
       let x : ℕ = getD t (u * n + v) 0 in

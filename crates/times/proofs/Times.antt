@@ -1,7 +1,7 @@
 -- What a pick's own table of times, composition and the test of measure 4 tell, and that a window has one table. Assumes nothing.
 use mathlib.Core.Path.{_≡_, refl, sym, _∙_, subst}
 use mathlib.Core.Logic.{_≢_, _⊎_, inl, inr, ⊎-elim, _↔_}
-use mathlib.Core.Bool.{Bool, true, false, _&&_, not}
+use mathlib.Core.Bool.{Bool, true, false, _&&_, not, cond}
 use mathlib.Core.List.{List, _++_}
 use Prim.Native.Nat.{ℕ, zero, suc, _+_, _*_, _≤_, _<_}
 use native.Mathlib.Nat.{not-suc-le-zero, le-refl}
@@ -15,14 +15,15 @@ use Rattle.model.proofs.Logic.{F→≡, eq-or, eq-refl, le-or-lt, or-l, or-r, o
 use Rattle.model.proofs.Trips.{journey-split, journey-to, journey-wider}
 use Rattle.lists.specs.Tab.{kept}
 use Rattle.lists.proofs.Tab.{every-in, every-out}
-use Rattle.times.specs.Times.{cell, rows, arr, dep, choose, sooner, later, after, apart, arriveBy, departBy, arrival, departure, arrivals, departures, composeTimes, ownTime, ownTimes, inTime, rowInTime, allInTime}
+use Rattle.times.specs.Times.{cell, rows, arr, dep, sooner, later, after, apart, arriveBy, departBy, arrival, departure, arrivals, departures}
+use Rattle.times.specs.Times.{composeTimes, ownTime, ownTimes, inTime, rowInTime, allInTime}
 use Rattle.times.specs.Tells.{Earliest, no-arrival, first, Latest, no-departure, last, TellsTimes}
 use Rattle.times.proofs.Cells.{length-rows, cell-rows, arr-append, dep-append, over, times-ext}
 
 -- ---- times, where 0 is none
 
 -- what holds of the one chosen, by cases
-choose-by : (Q : ℕ → Type 0) (b : Bool) (x y : ℕ) → (T b → Q x) → ((T b → ⊥) → Q y) → Q (choose b x y)
+choose-by : (Q : ℕ → Type 0) (b : Bool) (x y : ℕ) → (T b → Q x) → ((T b → ⊥) → Q y) → Q (cond b x y)
 choose-by Q true x y f g = f tt
 choose-by Q false x y f g = g (λ t. t)
 
@@ -43,7 +44,8 @@ some : (x : ℕ) → (T (eqb x 0) → ⊥) → 1 ≤ x
 some x f = let g : x ≢ 0 = λ h. f (eq-refl h) in omega arith
 
 -- the cases of `sooner`
-sooner-by : (Q : ℕ → Type 0) (x y : ℕ) → (x ≡ 0 → Q y) → (y ≡ 0 → Q x) → (1 ≤ x → x ≤ y → Q x) → (1 ≤ y → y < x → Q y) → Q (sooner x y)
+sooner-by : (Q : ℕ → Type 0) (x y : ℕ) → (x ≡ 0 → Q y) → (y ≡ 0 → Q x) → (1 ≤ x → x ≤ y → Q x) → (1 ≤ y → y < x → Q y)
+    → Q (sooner x y)
 unfolding sooner
 sooner-by Q x y f g h k =
     choose-by Q (eqb x 0) y _ (λ t. f (eqb→eq x 0 t))
@@ -110,7 +112,8 @@ module _ {B : ℕ → ℕ → Type 0} {op : ℕ → ℕ → ℕ} (c : Picks B op
   good (suc n) a (here f) = rw next (c .left _ _ a (good n a (here f)))
   good (suc n) a (there f) = rw next (c .left _ _ a (good n a (there f)))
   good (suc n) a (over-by w h e f) =
-      rw next (⊎-elim (λ (z : w ≡ n). c .right _ _ a (rw (← z) (choose-by (λ x. B x a) (eqb (p w) 0) 0 (q w) (λ t. absurd (e (eqb→eq (p w) 0 t))) (λ t. f))))
+      rw next (⊎-elim (λ (z : w
+      ≡ n). c .right _ _ a (rw (← z) (choose-by (λ x. B x a) (eqb (p w) 0) 0 (q w) (λ t. absurd (e (eqb→eq (p w) 0 t))) (λ t. f))))
       (λ (z : w ≢ n). c .left _ _ a (good n a (over-by w (omega arith) e f))) (eq-or w n))
 
   -- so it is the best, where all that is offered is real
@@ -130,7 +133,11 @@ module _ {r : List (List ℕ)} {L : Limit} {i j u v x : ℕ} where
   earliest-early : 1 ≤ i → Earliest r L i j u v x → Early r L i j u v x
   earliest-early h (no-arrival e f) = record { real = λ z. absurd (z e); best = λ a p q g. absurd (f (journey-wider (le-refl i) q g)) }
   earliest-early h (first c) =
-      record { real = λ z. (c .from, c .upto, c .there); best = λ a p q g. let f : a < x → ⊥ = λ l. c .first a p l g in (omega (arith, c .from), omega arith) }
+      record {
+        real = λ z. (c .from, c .upto, c .there);
+        best = λ a p q g. let f : a < x
+            → ⊥ = λ l. c .first a p l g in (omega (arith, c .from), omega arith);
+      }
 
   latest-late : 1 ≤ i → Latest r L i j u v x → Late r L i j u v x
   latest-late h (no-departure e f) = record { real = λ z. absurd (z e); best = λ d p q g. absurd (f (journey-wider p (le-refl j) g)) }
@@ -157,7 +164,8 @@ module _ {r : List (List ℕ)} {n : ℕ} {L : Limit} {i j : ℕ} {t : List ℕ} 
   late u v hu hv ne = latest-late h (a .departs u v hu hv ne)
 
 -- there is one best
-best-once : {B : ℕ → ℕ → Type 0} {P : ℕ → Type 0} {i j x y : ℕ} → ((x y : ℕ) → x ≢ 0 → B y x → (y ≢ 0) × (B x y → x ≡ y)) → Best B P i j x → Best B P i j y → x ≡ y
+best-once : {B : ℕ → ℕ → Type 0} {P : ℕ → Type 0} {i j x y : ℕ} → ((x y : ℕ) → x ≢ 0 → B y x → (y ≢ 0) × (B x y → x ≡ y))
+    → Best B P i j x → Best B P i j y → x ≡ y
 best-once {B} {x = x} {y = y} law b c =
     let f : x ≢ 0 → B y x = λ z. let d = b .real z in c .best x (d .0) (d .1) (d .2) in
     let g : y ≢ 0 → B x y = λ z. let d = c .real z in b .best y (d .0) (d .1) (d .2) in
@@ -178,12 +186,14 @@ module _ (n : ℕ) (r : List (List ℕ)) (L : Limit) (rec : Recording n r) (k u 
       let f = journey-split r L a k b u v p q h l .0 j in
       ⊎-elim (λ (e : u ≡ f .0). x (rw e (f .2)))
       (λ (e : u ≢ f .0). ⊎-elim (λ (d : f .0 ≡ v). y (rw (← d) (f .1)))
-      (λ (d : f .0 ≢ v). z (f .0) (journey-to n L r rec a k u (f .0) p (omega arith) (omega arith) hu (f .1)) e d (f .1) (f .2)) (eq-or (f .0) v)) (eq-or u (f .0))
+      (λ (d : f .0 ≢ v). z (f .0) (journey-to n L r rec a k u (f .0) p (omega arith) (omega arith) hu (f .1)) e d (f .1) (f .2)) (eq-or (f .0) v))
+      (eq-or u (f .0))
 
   module _ (i j : ℕ) (hi : 1 ≤ i) (hk : i ≤ k) (hj : k < j) (hr : j ≤ length r) (ne : u ≢ v)
       (s t : List ℕ) (os : (u : ℕ) → u < n → cell n s u u ≡ 0) (ot : (u : ℕ) → u < n → cell n t u u ≡ 0) where
     -- composition finds the earliest arrival, where s and t tell theirs
-    arrive : ((u v : ℕ) → u < n → v < n → u ≢ v → Early r L i k u v (cell n s u v)) → ((u v : ℕ) → u < n → v < n → u ≢ v → Early r L (suc k) j u v (cell n t u v))
+    arrive : ((u v : ℕ) → u < n → v < n → u ≢ v → Early r L i k u v (cell n s u v)) → ((u v : ℕ) → u < n → v < n → u ≢ v
+        → Early r L (suc k) j u v (cell n t u v))
         → Early r L i j u v (arriveBy n s t n u v)
     unfolding arriveBy
     arrive fs ft =
@@ -194,14 +204,23 @@ module _ (n : ℕ) (r : List (List ℕ)) (L : Limit) (rec : Recording n r) (k u 
         (λ z. let f = y .real z in (omega (arith, f .0), f .1, journey-wider (omega arith) (le-refl _) (f .2)))
         (λ w hw e z.
         let f = fs u w hu hw (other n s os u w hu e) .real e in
-        let g = ft w v hw hv (other n t ot w v hw z) .real z in
-        (omega (arith, g .0), g .1, journey-split r L i k (cell n t w v) u v hi hk (g .0) (omega (arith, g .1)) .1 (w, journey-wider (le-refl i) (f .1) (f .2), g .2)))
+        let g = ft w v hw hv (other n t ot w v hw z) .real z in (
+          omega (arith, g .0),
+          g .1,
+          journey-split r L i k (cell n t w v) u v hi hk (g .0) (omega (arith, g .1)) .1 (
+            w,
+            journey-wider (le-refl i) (f .1)
+                (f .2),
+            g .2,
+          ),
+        ))
         (λ a p q f. ⊎-elim (λ (h : a ≤ k). here (x .best a p h f)) (λ (h : k < a).
         parts i a hi hk h (omega arith) (λ f. there (y .best a h q f)) (λ f. let z = x .best k hk (le-refl k) f in here (z .0, omega arith))
         (λ w l d e f g. let z = fs u w hu l d .best k hk (le-refl k) f in over-by w l (omega arith) (ft w v l hv e .best a h q g)) f) (le-or-lt a k))
 
     -- and the latest departure
-    depart : ((u v : ℕ) → u < n → v < n → u ≢ v → Late r L i k u v (cell n s u v)) → ((u v : ℕ) → u < n → v < n → u ≢ v → Late r L (suc k) j u v (cell n t u v))
+    depart : ((u v : ℕ) → u < n → v < n → u ≢ v → Late r L i k u v (cell n s u v)) → ((u v : ℕ) → u < n → v < n → u ≢ v
+        → Late r L (suc k) j u v (cell n t u v))
         → Late r L i j u v (departBy n s t n u v)
     unfolding departBy
     depart fs ft =
@@ -212,8 +231,16 @@ module _ (n : ℕ) (r : List (List ℕ)) (L : Limit) (rec : Recording n r) (k u 
         (λ z. let f = y .real z in (omega (arith, f .0), f .1, f .2))
         (λ w hw e z.
         let f = fs u w hu hw (other n s os u w hu z) .real z in
-        let g = ft w v hw hv (other n t ot w v hw e) .real e in
-        (f .0, omega (arith, f .1), journey-split r L (cell n s u w) k j u v (omega (arith, f .0)) (f .1) hj hr .1 (w, f .2, journey-wider (g .0) (le-refl j) (g .2))))
+        let g = ft w v hw hv (other n t ot w v hw e) .real e in (
+          f .0,
+          omega (arith, f .1),
+          journey-split r L (cell n s u w) k j u v (omega (arith, f .0)) (f .1) hj hr .1 (
+            w,
+            f .2,
+            journey-wider (g .0) (le-refl j)
+                (g .2),
+          ),
+        ))
         (λ a p q f. ⊎-elim (λ (h : a ≤ k).
         parts a j (omega arith) h hj hr (λ f. let z = y .best (suc k) (le-refl (suc k)) hj f in there (omega arith)) (λ f. here (x .best a p h f))
         (λ w l d e f g. let z = ft w v l hv e .best (suc k) (le-refl (suc k)) hj g in over-by w l (omega arith) (fs u w hu l d .best a p h f)) f)
@@ -231,7 +258,8 @@ module _ (n : ℕ) (f g : ℕ → ℕ → ℕ) where
   dep-rows u v hu hv = dep-append n (rows n f n) (rows n g n) u v (length-rows n f n) ∙ cell-rows n g n u v hu hv
 
 -- THEOREM. The tables of two adjoining windows compose to that of both together.
-pub compose-tells : {n : ℕ} {r : List (List ℕ)} {L : Limit} {i k j : ℕ} {s t : List ℕ} → Recording n r → 1 ≤ i → i ≤ k → k < j → j ≤ length r
+pub compose-tells : {n : ℕ} {r : List (List ℕ)} {L : Limit} {i k j : ℕ} {s t : List ℕ} → Recording n r → 1 ≤ i → i ≤ k → k < j
+    → j ≤ length r
     → TellsTimes r n L i k s → TellsTimes r n L (suc k) j t → TellsTimes r n L i j (composeTimes n s t)
 unfolding composeTimes arrivals departures arrival departure
 compose-tells {n} {r} {L} {i} {k} {j} {s} {t} rec hi hk hj hr a b = record {
@@ -241,7 +269,8 @@ compose-tells {n} {r} {L} {i} {k} {j} {s} {t} rec hi hk hj hr a b = record {
   arrives = λ u v hu hv ne. rw (arr-rows n _ _ u v hu hv, apart-other u v _ ne) (early-earliest (omega arith) (
       arrive n r L rec k u v hu hv i j hi hk hj hr ne s t (a .own-arrival) (b .own-arrival) (early hi a) (early (omega arith) b)));
   departs = λ u v hu hv ne. rw (dep-rows n _ _ u v hu hv, apart-other u v _ ne) (late-latest hi (omega arith) (
-      depart n r L rec k u v hu hv i j hi hk hj hr ne (drop (n * n) s) (drop (n * n) t) (a .own-departure) (b .own-departure) (late hi a) (late (omega arith) b)));
+      depart n r L rec k u v hu hv i j hi hk hj hr ne (drop (n * n) s) (drop (n * n) t) (a .own-departure) (b .own-departure) (late hi a)
+      (late (omega arith) b)));
 }
 
 -- ---- a pick's own table
@@ -272,7 +301,8 @@ own-tells {n} {i = i} rec hi hr w m = record {
     own u h = rw (F→≡ (link w u u) (λ t. m u u h h .0 t .0 refl))
 
 -- THEOREM. A window has one table.
-pub tells-once : {r : List (List ℕ)} {n : ℕ} {L : Limit} {i j : ℕ} {s t : List ℕ} → 1 ≤ i → TellsTimes r n L i j s → TellsTimes r n L i j t → s ≡ t
+pub tells-once : {r : List (List ℕ)} {n : ℕ} {L : Limit} {i j : ℕ} {s t : List ℕ} → 1 ≤ i → TellsTimes r n L i j s → TellsTimes r n L i j t
+    → s ≡ t
 tells-once {n = n} {s = s} {t = t} hi a b =
     times-ext n s t (a .wide) (b .wide)
     (λ u v hu hv. ⊎-elim (λ (e : u ≡ v). rw (← e) (a .own-arrival u hu ∙ sym (b .own-arrival u hu)))
@@ -292,19 +322,23 @@ in-time-is n turn t u v =
     let a : Bool = not (eqb (arr n t u v) 0) in
     let b : Bool = not (eqb (arr n t v u) 0) in
     let c : Bool = leb (arr n t u v + turn) (dep n t v u) in (
-      λ h. ⊎-elim (λ q. inl (eqb→eq u v q)) (λ m. let k = and-r a (b && c) m in inr (ne-eqb _ 0 (and-l a (b && c) m), ne-eqb _ 0 (and-l b c k), leb→le _ _ (and-r b c k)))
+      λ h. ⊎-elim (λ q. inl (eqb→eq u v q))
+          (λ m. let k = and-r a (b && c) m in inr (ne-eqb _ 0 (and-l a (b && c) m), ne-eqb _ 0 (and-l b c k), leb→le _ _ (and-r b c k)))
           (or-cases (eqb u v) (a && (b && c)) h),
-      ⊎-elim (λ q. or-l (eqb u v) _ (eq-refl q)) (λ m. or-r (eqb u v) _ (and-both a (b && c) (eqb-ne _ 0 (m .0)) (and-both b c (eqb-ne _ 0 (m .1)) (le→leb _ _ (m .2))))),
+      ⊎-elim (λ q. or-l (eqb u v) _ (eq-refl q)) (λ m. or-r (eqb u v) _ (and-both a (b && c) (eqb-ne _ 0 (m .0)) (and-both b c (eqb-ne _ 0 (m .1))
+          (le→leb _ _ (m .2))))),
     )
 
 -- a table's times that meet make a round trip
-meets : {r : List (List ℕ)} {L : Limit} {turn i j u v x z : ℕ} → x ≢ 0 → x + turn ≤ z → Earliest r L i j u v x → Latest r L i j v u z → RoundTrip r L turn i j u v
+meets : {r : List (List ℕ)} {L : Limit} {turn i j u v x z : ℕ} → x ≢ 0 → x + turn ≤ z → Earliest r L i j u v x → Latest r L i j v u z
+    → RoundTrip r L turn i j u v
 meets p q (no-arrival e f) d = absurd (p e)
 meets p q (first c) (no-departure e f) = absurd (omega arith)
 meets {x = x} {z = z} p q (first c) (last d) = record { a = x; d = z; arrival = c; departure = d; in-time = q }
 
 -- THEOREM. The test of measure 4 tells whether the window passes.
-pub tells-test : {r : List (List ℕ)} {n : ℕ} {L : Limit} {turn i j : ℕ} {t : List ℕ} → 1 ≤ i → i ≤ j → j ≤ length r → TellsTimes r n L i j t
+pub tells-test : {r : List (List ℕ)} {n : ℕ} {L : Limit} {turn i j : ℕ} {t : List ℕ} → 1 ≤ i → i ≤ j → j ≤ length r
+    → TellsTimes r n L i j t
     → T (allInTime n turn t) ↔ PassesRoundTrip r n L turn i j
 unfolding allInTime rowInTime
 tells-test {r} {n} {L} {turn} {i} {j} {t} hi hj hr a = (

@@ -1,7 +1,7 @@
 -- A pick's own table, written in both halves at once: the loops that write it, and a word of it by the bit of its board. Assumes nothing.
 use mathlib.Core.Path.{_≡_, refl, sym, ap, _∙_}
 use mathlib.Core.Logic.{⊎-elim}
-use mathlib.Core.Bool.{Bool, true, false, _&&_, not}
+use mathlib.Core.Bool.{Bool, true, false, _&&_, not, cond}
 use mathlib.Core.List.{List, _++_}
 use Prim.Native.Nat.{ℕ, suc, _+_, _-_, _*_, _^_, _≤_, _<_, zero-le}
 use native.Mathlib.Nat.{sub-zero, not-suc-le-zero, eq-or-lt-of-le, lt-of-le-of-lt}
@@ -17,7 +17,7 @@ use Rattle.model.proofs.Logic.{tr, le-or-lt}
 use Rattle.model.proofs.Bits.{bit-high, bit-and, bit-one, bits-ext}
 use Rattle.lists.specs.Tab.{tab, kept}
 use Rattle.lists.proofs.Tab.{length-tab, getD-tab}
-use Rattle.times.specs.Times.{rows, choose, ownTime}
+use Rattle.times.specs.Times.{rows, ownTime}
 use Rattle.times.specs.Own.{boardBit, ownWord, Twice}
 use Rattle.times.proofs.Cells.{length-rows, cell-rows}
 
@@ -47,7 +47,8 @@ module _ {m : ℕ} {f : ℕ → ℕ} {t : List ℕ} {k : ℕ} (w : Twice m f t k
       }
 
 -- the loop's end
-pub twice-all : (n : ℕ) (f : ℕ → ℕ → ℕ) {t : List ℕ} {k : ℕ} → Twice (n * n) (λ i. getD (rows n f n) i 0) t k → n * n ≤ k → t ≡ rows n f n ++ rows n f n
+pub twice-all : (n : ℕ) (f : ℕ → ℕ → ℕ) {t : List ℕ} {k : ℕ} → Twice (n * n) (λ i. getD (rows n f n) i 0) t k → n * n ≤ k
+    → t ≡ rows n f n ++ rows n f n
 twice-all n f {t} {k} w h =
     let r = rows n f n in
     let l : length r ≡ n * n = length-rows n f n in
@@ -84,12 +85,12 @@ board-bit x v = by (bit x v) refl
         (λ k h. common k ∙ none k e (eqb v k) refl ∙ sym (bit-high 0 k (pow-pos k))))
 
 pub own-word : (n p : ℕ) (w bits : List ℕ) (u v : ℕ) → bits ≡ tab boardBit n → u < n → v < n
-    → choose (eqb (bitAnd (getD w u 0) (getD bits v 0)) 0) 0 p ≡ ownWord n p w (u * n + v)
+    → cond (eqb (bitAnd (getD w u 0) (getD bits v 0)) 0) 0 p ≡ ownWord n p w (u * n + v)
 unfolding ownWord ownTime boardBit link
 own-word n p w bits u v e hu hv =
     rw (e, getD-tab boardBit n v hv, board-bit (getD w u 0) v) (by (bit (getD w u 0) v)) ∙ sym (cell-rows n (ownTime p w) n u v hu hv)
   where
-    by : (b : Bool) → choose (not b) 0 p ≡ kept b p
+    by : (b : Bool) → cond (not b) 0 p ≡ kept b p
     by true = refl
     by false = refl
 

@@ -1,6 +1,6 @@
 -- Tables of times, measure 4: n × n words of earliest arrivals, then n × n words of latest departures, each at word from × n + to; 0 where
 -- there is no journey. Each operation is defined on the words as they are found, each half by itself; own entries are written as 0.
-use mathlib.Core.Bool.{Bool, true, false, _&&_, _||_, not}
+use mathlib.Core.Bool.{Bool, true, false, _&&_, _||_, not, cond}
 use mathlib.Core.List.{List, [], _++_}
 use Prim.Native.Nat.{ℕ, zero, suc, _+_, _*_}
 use lib.Dec.{eqb, leb}
@@ -28,25 +28,21 @@ dep n t u v = cell n (drop (n * n) t) u v
 
 -- ---- times, where 0 is none
 
-abbrev pub choose : Bool → ℕ → ℕ → ℕ
-choose true x y = x
-choose false x y = y
-
 -- the earlier of two times
 unfoldable pub sooner : ℕ → ℕ → ℕ
-sooner x y = choose (eqb x 0) y (choose (eqb y 0) x (choose (leb x y) x y))
+sooner x y = cond (eqb x 0) y (cond (eqb y 0) x (cond (leb x y) x y))
 
 -- the later of two times
 unfoldable pub later : ℕ → ℕ → ℕ
-later x y = choose (leb x y) y x
+later x y = cond (leb x y) y x
 
 -- the time y, where x is one
 unfoldable pub after : ℕ → ℕ → ℕ
-after x y = choose (eqb x 0) 0 y
+after x y = cond (eqb x 0) 0 y
 
 -- x, but 0 where u is v
 unfoldable pub apart : ℕ → ℕ → ℕ → ℕ
-apart u v x = choose (eqb u v) 0 x
+apart u v x = cond (eqb u v) 0 x
 
 -- ---- composition
 

@@ -2,12 +2,13 @@
 // A table is written row by row, so that a loop over a row needs no division, and no branch but selects that the compiler turns into vector
 // code. Their composition is in `folds`.
 ghost use mathlib.Core.Path.{_≡_};
+ghost use mathlib.Core.Bool.{cond};
 ghost use Prim.Native.Nat.{_+_, _*_, _^_, _≤_, _<_};
 ghost use lib.Bits.{bitAnd};
 ghost use lib.Dec.{eqb};
 ghost use lib.ListN.{length};
 ghost use Rattle.lists.specs.Tab.{tab};
-ghost use Rattle.times.specs.Times.{choose, ownTimes, allInTime};
+ghost use Rattle.times.specs.Times.{ownTimes, allInTime};
 ghost use Rattle.times.specs.Own.{boardBit, ownWord, Twice, OwnRow};
 ghost use Rattle.times.specs.Pairs.{noLater, pairInTime, belowInTime};
 use model::Board;
@@ -28,7 +29,7 @@ fn board_bits() -> [u32; 32]
 
 // The pick where the word has the bit, else none: a select.
 fn own_time(word: u32, bit: u32, pick: u32) -> u32
-    ensures { λ r. ⌜ r ≡ choose (eqb (bitAnd word bit) 0) 0 pick ⌝ }
+    ensures { λ r. ⌜ r ≡ cond (eqb (bitAnd word bit) 0) 0 pick ⌝ }
 {
     if word & bit == 0 { 0 } else { pick }
 }

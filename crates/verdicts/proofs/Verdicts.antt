@@ -7,6 +7,8 @@ use native.Mathlib.Omega.{arith}
 use mathlib.Core.List.{List}
 use lib.Dec.{T, eqb, eqb→eq, leb, leb→le, le→leb, ltb, ltb→lt, lt→ltb}
 use lib.ListN.{length, take, drop}
+use Rattle.model.specs.Causes.{between, NoneHolds}
+use Rattle.model.proofs.Causes.{none-holds}
 use Rattle.model.proofs.Logic.{tr, T→≡, F→≡, eq-refl, and-l, and-r, and-both}
 use Rattle.checks.specs.Checks.{clean, listed}
 use Rattle.checks.specs.Lent.{cleanPicks}
@@ -16,26 +18,9 @@ use Rattle.area.specs.Parts.{Has, part}
 use Rattle.area.proofs.Laws.{has}
 use Rattle.area.proofs.Lent.{width-most}
 use Rattle.place.specs.declared.Place.{Place}
-use Rattle.place.specs.Places.{between, soundPlace}
 use Rattle.place.proofs.Laws.{sound-says, sound-in}
-use Rattle.verdicts.specs.Verdicts.{stop, needed, openVerdict, pickVerdict, wholeVerdict}
+use Rattle.verdicts.specs.Verdicts.{needed, lentCauses, openCauses, pickCauses, wholeCauses, openVerdict, pickVerdict, wholeVerdict}
 use Rattle.verdicts.specs.Fit.{Clears, Opens, Takes, Runs}
-
--- a test that fails leaves it to the rest
-pub stop-step : {x : Bool} (c : ℕ) {v r : ℕ} → x ≡ false → r ≡ v → r ≡ stop x c v
-unfolding stop
-stop-step c e g = rw (e, g)
-
--- the first test that holds decides
-pub stop-here : {x : Bool} {c : ℕ} (v : ℕ) → x ≡ true → c ≡ stop x c v
-unfolding stop
-stop-here v e = rw e
-
--- where nothing refuses, each test fails
-pub stop-out : (x : Bool) (c v : ℕ) → 1 ≤ c → stop x c v ≡ 0 → (x ≡ false) × (v ≡ 0)
-unfolding stop
-stop-out true c v h e = absurd (omega arith)
-stop-out false c v h e = (refl, e)
 
 -- a range that was checked
 pub between-says : (low x high : ℕ) → between low x high ≡ true → (low ≤ x) × (x ≤ high)
@@ -71,7 +56,8 @@ pub third-part : (measure n limit words : ℕ) → needed measure n limit ≤ wo
 third-part measure n limit words h = has (widthOf measure n) (limit + 4) words (limit + 3) h (omega arith) (omega arith)
 
 -- the same, of the width and the length that code has
-pub third-fits : (measure n limit e words after : ℕ) → e ≡ widthOf measure n → after ≡ words → needed measure n limit ≤ words → Has e after (limit + 3)
+pub third-fits : (measure n limit e words after : ℕ) → e ≡ widthOf measure n → after ≡ words → needed measure n limit ≤ words
+    → Has e after (limit + 3)
 third-fits measure n limit e words after q k h = rw (q, k) (third-part measure n limit words h)
 
 -- part limit + 3, as code lends it
@@ -103,15 +89,11 @@ two-of measure x e m = true-of x (subst (λ (b : Bool). b && not x ≡ false) (T
 pub open-sound : (n measure limit : ℕ) (footprint a : List ℕ) → openVerdict n measure limit footprint a ≡ 0 → Opens n measure limit footprint a
 unfolding openVerdict
 open-sound n measure limit footprint a e =
-    let s1 = stop-out (not (between 2 n 32)) 1 _ (omega arith) e in
-    let s2 = stop-out (not (between 1 measure 4)) 2 _ (omega arith) (s1 .1) in
-    let s3 = stop-out (not (between 1 limit 4096)) 3 _ (omega arith) (s2 .1) in
-    let s4 = stop-out (eqb measure 2 && not (eqb (length footprint) n)) 10 _ (omega arith) (s3 .1) in
-    let s5 = stop-out (eqb measure 2 && not (clean n footprint)) 5 _ (omega arith) (s4 .1) in
-    let s6 = stop-out (ltb (length a) (needed measure n limit)) 4 0 (omega arith) (s5 .1) in
-    let bn = between-says 2 n 32 (holds-by refl (s1 .0)) in
-    let bm = between-says 1 measure 4 (holds-by refl (s2 .0)) in
-    let bl = between-says 1 limit 4096 (holds-by refl (s3 .0)) in
+    let s = none-holds (openCauses n measure limit footprint a) tt .0 e in
+    let t = s .1 .1 .1 in
+    let bn = between-says 2 n 32 (holds-by refl (s .0)) in
+    let bm = between-says 1 measure 4 (holds-by refl (s .1 .0)) in
+    let bl = between-says 1 limit 4096 (holds-by refl (s .1 .1 .0)) in
     record {
       some-boards = bn .0;
       few = bn .1;
@@ -119,9 +101,9 @@ open-sound n measure limit footprint a e =
       measure-high = bm .1;
       some-picks = bl .0;
       cap = bl .1;
-      room = not-short (length a) (needed measure n limit) (s6 .0);
-      list = λ m. sym (eqb→eq (length footprint) n (two-of measure (eqb (length footprint) n) (s4 .0) m));
-      clean = two-of measure (clean n footprint) (s5 .0);
+      room = not-short (length a) (needed measure n limit) (t .1 .1 .0);
+      list = λ m. sym (eqb→eq (length footprint) n (two-of measure (eqb (length footprint) n) (t .0) m));
+      clean = two-of measure (clean n footprint) (t .1 .0);
     }
 
 pub open-clears : {n measure limit : ℕ} {footprint a : List ℕ} → Opens n measure limit footprint a → Clears n measure limit footprint a
@@ -131,49 +113,47 @@ open-clears o = record { few = o .few; cap = o .cap; room = o .room; list = o .l
 pub pick-sound : (p : Place) (a w : List ℕ) → pickVerdict p a w ≡ 0 → Takes p a w
 unfolding pickVerdict
 pick-sound p a w e =
-    let s1 = stop-out (not (soundPlace p)) 16 _ (omega arith) e in
-    let s2 = stop-out (leb (p .limit) (p .taken .0)) 7 _ (omega arith) (s1 .1) in
-    let s3 = stop-out (not (eqb (length w) (p .boards))) 10 _ (omega arith) (s2 .1) in
-    let s4 = stop-out (not (clean (p .boards) w)) 5 _ (omega arith) (s3 .1) in
-    let s5 = stop-out (ltb (length a) (needed (p .measure) (p .boards) (p .limit))) 4 _ (omega arith) (s4 .1) in
-    let s6 = stop-out (eqb (p .measure) 2 && not (listed (p .boards) (part (p .boards) a (p .limit + 3)) w)) 6 0 (omega arith) (s5 .1) in
-    let g : p .limit ≤ p .taken .0 → ⊥ = λ h. false-of (s2 .0) (le→leb (p .limit) (p .taken .0) h) in
+    let n = p .settings .boards in
+    let s = none-holds (pickCauses p a w) tt .0 e in
+    let t = s .1 .1 .1 in
+    let g : p .settings .limit ≤ p .window .taken .0 → ⊥ = λ h. false-of (s .1 .0) (le→leb (p .settings .limit) (p .window .taken .0) h) in
     record {
-      sound = sound-says p (holds-by refl (s1 .0));
+      sound = sound-says p (holds-by refl (s .0));
       below = omega arith;
-      shape = eqb→eq (length w) (p .boards) (true-of (eqb (length w) (p .boards)) (s3 .0));
-      clean = true-of (clean (p .boards) w) (s4 .0);
-      room = not-short (length a) (needed (p .measure) (p .boards) (p .limit)) (s5 .0);
-      listed = two-of (p .measure) (listed (p .boards) (part (p .boards) a (p .limit + 3)) w) (s6 .0);
+      shape = eqb→eq (length w) n (true-of (eqb (length w) n) (s .1 .1 .0));
+      clean = true-of (clean n w) (t .0);
+      room = not-short (length a) (needed (p .settings .measure) n (p .settings .limit)) (t .1 .0);
+      listed = two-of (p .settings .measure) (listed n (part n a (p .settings .limit + 3)) w) (t .1 .1 .0);
     }
+
+-- what the first causes of a lent recording leave
+pub lent-sound : (n : ℕ) (w : List ℕ) → NoneHolds (lentCauses n w) → (length w ≡ length w / n * n) × (1 ≤ length w / n) × (length w / n ≤ 4096)
+lent-sound n w s =
+    let z : length w % n ≡ 0 = eqb→eq (length w % n) 0 (true-of (eqb (length w % n) 0) (s .0)) in
+    let nz : length w / n ≡ 0 → ⊥ = λ h. false-of (s .1 .0) (eq-refl h) in
+    let d = div-add-mod' (length w) n in
+    (omega arith, omega arith, not-short 4096 (length w / n) (s .1 .1 .0))
 
 -- what a whole run relies on
 pub whole-sound : (n measure : ℕ) (w a : List ℕ) → wholeVerdict n measure w a ≡ 0 → Runs n measure (length w / n) w a
 unfolding wholeVerdict
 whole-sound n measure w a e =
     let m = length w / n in
-    let s1 = stop-out (not (between 2 n 32)) 1 _ (omega arith) e in
-    let s2 = stop-out (not (between 1 measure 4)) 2 _ (omega arith) (s1 .1) in
-    let s3 = stop-out (not (eqb (length w % n) 0)) 10 _ (omega arith) (s2 .1) in
-    let s4 = stop-out (eqb (length w / n) 0) 8 _ (omega arith) (s3 .1) in
-    let s5 = stop-out (ltb 4096 (length w / n)) 3 _ (omega arith) (s4 .1) in
-    let s6 = stop-out (ltb (length a) (needed measure n (length w / n))) 4 _ (omega arith) (s5 .1) in
-    let s7 = stop-out (not (cleanPicks n w (length w / n))) 5 0 (omega arith) (s6 .1) in
-    let bn = between-says 2 n 32 (holds-by refl (s1 .0)) in
-    let bm = between-says 1 measure 4 (holds-by refl (s2 .0)) in
-    let z : length w % n ≡ 0 = eqb→eq (length w % n) 0 (true-of (eqb (length w % n) 0) (s3 .0)) in
-    let nz : m ≡ 0 → ⊥ = λ h. false-of (s4 .0) (eq-refl h) in
-    let d = div-add-mod' (length w) n in
+    let s = none-holds (wholeCauses n measure w a) tt .0 e in
+    let t = s .1 .1 in
+    let l = lent-sound n w (t .0, (t .1 .0, (t .1 .1 .0, tt))) in
+    let bn = between-says 2 n 32 (holds-by refl (s .0)) in
+    let bm = between-says 1 measure 4 (holds-by refl (s .1 .0)) in
     record {
       some-boards = bn .0;
       few = bn .1;
       measure-low = bm .0;
       measure-high = bm .1;
-      words = omega arith;
-      some-picks = omega arith;
-      cap = not-short 4096 m (s5 .0);
-      room = not-short (length a) (needed measure n m) (s6 .0);
-      clean = true-of (cleanPicks n w (length w / n)) (s7 .0);
+      words = l .0;
+      some-picks = l .1;
+      cap = l .2;
+      room = not-short (length a) (needed measure n m) (t .1 .1 .1 .0);
+      clean = true-of (cleanPicks n w m) (t .1 .1 .1 .1 .0);
     }
 
 -- ---- the other way: where each clause holds, no cause does
@@ -198,22 +178,45 @@ long-enough x y h = F→≡ (ltb x y) (λ t. let z = ltb→lt x y t in omega ari
 pub opens-verdict : {n measure limit : ℕ} {footprint a : List ℕ} → Opens n measure limit footprint a → openVerdict n measure limit footprint a ≡ 0
 unfolding openVerdict
 opens-verdict {n} {measure} {limit} {footprint} {a} o =
-    sym (stop-step 1 (in-range 2 n 32 (o .some-boards) (o .few))
-    (stop-step 2 (in-range 1 measure 4 (o .measure-low) (o .measure-high))
-    (stop-step 3 (in-range 1 limit 4096 (o .some-picks) (o .cap))
-    (stop-step 10 (two-passes measure (eqb (length footprint) n) (λ m. eq-refl (sym (o .list m))))
-    (stop-step 5 (two-passes measure (clean n footprint) (o .clean))
-    (stop-step 4 (long-enough (length a) (needed measure n limit) (o .room)) refl))))))
+    none-holds (openCauses n measure limit footprint a) tt .1 (
+      in-range 2 n 32 (o .some-boards) (o .few),
+      (
+        in-range 1 measure 4 (o .measure-low) (o .measure-high),
+        (
+          in-range 1 limit 4096 (o .some-picks) (o .cap),
+          (
+            two-passes measure (eqb (length footprint) n) (λ m. eq-refl (sym (o .list m))),
+            (
+              two-passes measure (clean n footprint) (o .clean),
+              (long-enough (length a) (needed measure n limit) (o .room), tt),
+            ),
+          ),
+        ),
+      ),
+    )
 
 pub takes-verdict : {p : Place} {a w : List ℕ} → Takes p a w → pickVerdict p a w ≡ 0
 unfolding pickVerdict
 takes-verdict {p} {a} {w} t =
-    sym (stop-step 16 (ap not (sound-in p (t .sound)))
-    (stop-step 7 (F→≡ (leb (p .limit) (p .taken .0)) (λ x. let y = leb→le (p .limit) (p .taken .0) x in let z = t .below in omega arith))
-    (stop-step 10 (passes (eqb (length w) (p .boards)) (eq-refl (t .shape)))
-    (stop-step 5 (passes (clean (p .boards) w) (t .clean))
-    (stop-step 4 (long-enough (length a) (needed (p .measure) (p .boards) (p .limit)) (t .room))
-    (stop-step 6 (two-passes (p .measure) (listed (p .boards) (part (p .boards) a (p .limit + 3)) w) (t .listed)) refl))))))
+    let n = p .settings .boards in
+    let l = p .settings .limit in
+    let m = p .window .taken .0 in
+    none-holds (pickCauses p a w) tt .1 (
+      ap not (sound-in p (t .sound)),
+      (
+        F→≡ (leb l m) (λ x. let y = leb→le l m x in let z = t .below in omega arith),
+        (
+          passes (eqb (length w) n) (eq-refl (t .shape)),
+          (
+            passes (clean n w) (t .clean),
+            (
+              long-enough (length a) (needed (p .settings .measure) n l) (t .room),
+              (two-passes (p .settings .measure) (listed n (part n a (l + 3)) w) (t .listed), tt),
+            ),
+          ),
+        ),
+      ),
+    )
 
 -- words for a whole number of picks, one at least
 pub whole-picks : (x n : ℕ) → x ≡ x / n * n → not (eqb (x % n) 0) ≡ false
@@ -222,13 +225,29 @@ whole-picks x n e = let d = div-add-mod' x n in let z : x % n ≡ 0 = omega arit
 pub some-picks : (m : ℕ) → 1 ≤ m → eqb m 0 ≡ false
 some-picks m h = F→≡ (eqb m 0) (λ t. let z = eqb→eq m 0 t in omega arith)
 
+pub lent-none : (n : ℕ) (w : List ℕ) → length w ≡ length w / n * n → 1 ≤ length w / n → length w / n ≤ 4096 → NoneHolds (lentCauses n w)
+lent-none n w e s h = (whole-picks (length w) n e, (some-picks (length w / n) s, (long-enough 4096 (length w / n) h, tt)))
+
 pub runs-verdict : (n measure : ℕ) (w a : List ℕ) → Runs n measure (length w / n) w a → wholeVerdict n measure w a ≡ 0
 unfolding wholeVerdict
 runs-verdict n measure w a o =
-    sym (stop-step 1 (in-range 2 n 32 (o .some-boards) (o .few))
-    (stop-step 2 (in-range 1 measure 4 (o .measure-low) (o .measure-high))
-    (stop-step 10 (whole-picks (length w) n (o .words))
-    (stop-step 8 (some-picks (length w / n) (o .some-picks))
-    (stop-step 3 (long-enough 4096 (length w / n) (o .cap))
-    (stop-step 4 (long-enough (length a) (needed measure n (length w / n)) (o .room))
-    (stop-step 5 (passes (cleanPicks n w (length w / n)) (o .clean)) refl)))))))
+    let l = lent-none n w (o .words) (o .some-picks) (o .cap) in
+    none-holds (wholeCauses n measure w a) tt .1 (
+      in-range 2 n 32 (o .some-boards) (o .few),
+      (
+        in-range 1 measure 4 (o .measure-low) (o .measure-high),
+        (
+          l .0,
+          (
+            l .1 .0,
+            (
+              l .1 .1 .0,
+              (
+                long-enough (length a) (needed measure n (length w / n)) (o .room),
+                (passes (cleanPicks n w (length w / n)) (o .clean), tt),
+              ),
+            ),
+          ),
+        ),
+      ),
+    )

@@ -33,11 +33,11 @@ pub record Opens (n measure limit : ℕ) (footprint a : List ℕ) : Type 0 where
 -- of a pick
 pub record Takes (p : Place) (a w : List ℕ) : Type 0 where
   pub sound : Sound p
-  pub below : p .taken .0 < p .limit
-  pub shape : length w ≡ p .boards
-  pub clean : T (clean (p .boards) w)
-  pub room : needed (p .measure) (p .boards) (p .limit) ≤ length a
-  pub listed : p .measure ≡ 2 → T (listed (p .boards) (part (p .boards) a (p .limit + 3)) w)
+  pub below : p .window .taken .0 < p .settings .limit
+  pub shape : length w ≡ p .settings .boards
+  pub clean : T (clean (p .settings .boards) w)
+  pub room : needed (p .settings .measure) (p .settings .boards) (p .settings .limit) ≤ length a
+  pub listed : p .settings .measure ≡ 2 → T (listed (p .settings .boards) (part (p .settings .boards) a (p .settings .limit + 3)) w)
 
 -- of a whole run; m picks are lent
 pub record Runs (n measure m : ℕ) (w a : List ℕ) : Type 0 where

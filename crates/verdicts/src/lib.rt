@@ -1,11 +1,13 @@
 // What the checks of opening, pick and whole run find, cause by cause in document 01's order. The three verdicts require nothing.
 ghost use mathlib.Core.Path.{_≡_};
+ghost use mathlib.Core.List.{[], _∷_};
 ghost use Prim.Native.Nat.{_+_, _*_, _≤_};
 ghost use lib.ListN.{length};
 ghost use lib.Dec.{ltb};
 ghost use Rattle.checks.specs.Checks.{listed};
 ghost use Rattle.area.specs.Parts.{part};
-ghost use Rattle.verdicts.specs.Verdicts.{stop, needed, openVerdict, pickVerdict, wholeVerdict, verdictSays};
+ghost use Rattle.model.specs.Causes.{firstOf};
+ghost use Rattle.verdicts.specs.Verdicts.{needed, lentCauses, runCauses, openVerdict, pickVerdict, wholeVerdict, verdictSays};
 use model::Refusal;
 use place::Place;
 
@@ -15,20 +17,46 @@ pub enum Verdict {
     Refuse(Refusal),
 }
 
-// Whether the area is shorter than needed: cause 4.
+// The words that an area needs.
+pub fn needed_words(measure: usize, n: usize, limit: usize) -> usize
+    requires { ⌜ (n ≤ 32) × (limit ≤ 4096) ⌝ }
+    ensures { λ r. ⌜ r ≡ needed measure n limit ⌝ }
+{
+    let e = measures::width(measure, n);
+    (limit + 4) * e
+}
+
+// Whether the area is shorter than that: cause 4.
 fn is_short(area: &[u32], measure: usize, n: usize, limit: usize) -> bool
     requires { ⌜ (n ≤ 32) × (limit ≤ 4096) ⌝ }
     ensures { λ r. ⌜ r ≡ ltb (length (now (area .entry))) (needed measure n limit) ⌝ }
 {
-    let e = measures::width(measure, n);
-    area.len() < (limit + 4) * e
+    area.len() < needed_words(measure, n, limit)
+}
+
+// The causes that every recording lent whole is asked first, in their order: 10, 8, 3.
+pub fn lent_verdict(words: &[u32], n: usize) -> Verdict
+    requires { ⌜ 1 ≤ n ⌝ }
+    ensures { λ r. ⌜ verdictSays r ≡ firstOf (lentCauses n (now (words .entry))) ⌝ }
+{
+    if words.len() % n != 0 {
+        return Verdict::Refuse(Refusal::Shape);
+    }
+    let m = words.len() / n;
+    if m == 0 {
+        return Verdict::Refuse(Refusal::NoPick);
+    }
+    if 4096 < m {
+        return Verdict::Refuse(Refusal::Picks);
+    }
+    Verdict::Sound
 }
 
 // ---- opening
 
 fn room_verdict(area: &[u32], measure: usize, n: usize, limit: usize) -> Verdict
     requires { ⌜ (n ≤ 32) × (limit ≤ 4096) ⌝ }
-    ensures { λ r. ⌜ verdictSays r ≡ stop (ltb (length (now (area .entry))) (needed measure n limit)) 4 0 ⌝ }
+    ensures { λ r. ⌜ verdictSays r ≡ firstOf ((ltb (length (now (area .entry))) (needed measure n limit), 4) ∷ []) ⌝ }
 {
     if is_short(area, measure, n, limit) {
         return Verdict::Refuse(Refusal::Room);
@@ -46,13 +74,13 @@ pub fn open_verdict(
 ) -> Verdict
     ensures { λ r. ⌜ verdictSays r ≡ openVerdict n measure limit (now (footprint .entry)) (now (area .entry)) ⌝ }
 {
-    if !place::is_between(2, n, 32) {
+    if !model::is_between(2, n, 32) {
         return Verdict::Refuse(Refusal::Boards);
     }
-    if !place::is_between(1, measure, 4) {
+    if !model::is_between(1, measure, 4) {
         return Verdict::Refuse(Refusal::Measure);
     }
-    if !place::is_between(1, limit, 4096) {
+    if !model::is_between(1, limit, 4096) {
         return Verdict::Refuse(Refusal::Picks);
     }
     if measure != 2 {
@@ -82,13 +110,13 @@ fn is_listed(area: &[u32], words: &[u32], n: usize, limit: usize) -> bool
 pub fn pick_verdict(p: Place, area: &[u32], words: &[u32]) -> Verdict
     ensures { λ r. ⌜ verdictSays r ≡ pickVerdict p (now (area .entry)) (now (words .entry)) ⌝ }
 {
-    let n = p.boards;
-    let limit = p.limit;
-    let measure = p.measure;
+    let n = p.settings.boards;
+    let limit = p.settings.limit;
+    let measure = p.settings.measure;
     if !p.is_sound() {
         return Verdict::Refuse(Refusal::BadPlace);
     }
-    if limit <= p.taken.0 {
+    if limit <= p.window.taken.0 {
         return Verdict::Refuse(Refusal::Full);
     }
     if words.len() != n {
@@ -111,26 +139,11 @@ pub fn pick_verdict(p: Place, area: &[u32], words: &[u32]) -> Verdict
 
 // ---- whole run
 
-// The causes of a whole run, in their order: 1, 2, 10, 8, 3, 4, 5.
-pub fn whole_verdict(n: usize, measure: usize, words: &[u32], area: &[u32]) -> Verdict
-    ensures { λ r. ⌜ verdictSays r ≡ wholeVerdict n measure (now (words .entry)) (now (area .entry)) ⌝ }
+// The causes after those of every lent recording: 4, 5.
+fn run_verdict(n: usize, measure: usize, words: &[u32], m: usize, area: &[u32]) -> Verdict
+    requires { ⌜ (n ≤ 32) × (m ≤ 4096) × (m * n ≤ length (now words)) ⌝ }
+    ensures { λ r. ⌜ verdictSays r ≡ firstOf (runCauses n measure (now (words .entry)) m (now (area .entry))) ⌝ }
 {
-    if !place::is_between(2, n, 32) {
-        return Verdict::Refuse(Refusal::Boards);
-    }
-    if !place::is_between(1, measure, 4) {
-        return Verdict::Refuse(Refusal::Measure);
-    }
-    if words.len() % n != 0 {
-        return Verdict::Refuse(Refusal::Shape);
-    }
-    let m = words.len() / n;
-    if m == 0 {
-        return Verdict::Refuse(Refusal::NoPick);
-    }
-    if 4096 < m {
-        return Verdict::Refuse(Refusal::Picks);
-    }
     if is_short(area, measure, n, m) {
         return Verdict::Refuse(Refusal::Room);
     }
@@ -138,4 +151,20 @@ pub fn whole_verdict(n: usize, measure: usize, words: &[u32], area: &[u32]) -> V
         return Verdict::Refuse(Refusal::Forbidden);
     }
     Verdict::Sound
+}
+
+// The causes of a whole run, in their order: 1, 2, 10, 8, 3, 4, 5.
+pub fn whole_verdict(n: usize, measure: usize, words: &[u32], area: &[u32]) -> Verdict
+    ensures { λ r. ⌜ verdictSays r ≡ wholeVerdict n measure (now (words .entry)) (now (area .entry)) ⌝ }
+{
+    if !model::is_between(2, n, 32) {
+        return Verdict::Refuse(Refusal::Boards);
+    }
+    if !model::is_between(1, measure, 4) {
+        return Verdict::Refuse(Refusal::Measure);
+    }
+    match lent_verdict(words, n) {
+        Verdict::Sound => run_verdict(n, measure, words, words.len() / n, area),
+        Verdict::Refuse(c) => Verdict::Refuse(c),
+    }
 }

@@ -2,7 +2,8 @@
 -- Assumes nothing.
 use native.Mathlib.Omega.{arith}
 use native.Mathlib.Nat.{add-sub-cancel-left}
-use Rattle.area.specs.Parts.{part, putPart}
+use Rattle.lists.specs.Tab.{splice}
+use Rattle.area.specs.Parts.{part}
 use Rattle.area.proofs.Lent.{fits}
 use borrow.Author.Needs.{needs}
 use Rattle.area.proofs.compose_links.Statement.{statement}
@@ -42,7 +43,7 @@ same-length-2 : tie.Need-same-length-2
 same-length-2 c = search needs
 
 returns : tie.Need-returns
-unfolding putPart part
+unfolding splice part
 returns c = simp (add-sub-cancel-left, c .before .before .join-over .ensures, c .before .before .before .before .before .before .before .take-part .ensures)
 
 pub compose-links-spec : {M : Type 1} → statement M

@@ -9,8 +9,9 @@ use Rattle.area.proofs.compose_own.Tie as tie
 
 compose-times-requires : tie.Need-compose-times-requires
 compose-times-requires c κs =
-    let h = c .before .before .before .before .before .before .pre in
-    let q = sym (width-times (c .before .before .before .before .before .before .args .measure) (c .before .before .before .before .before .before .args .n) (c .before .before .if1 .taken)) in
+    let c6 = c .before .before .before .before .before .before in
+    let h = c6 .pre in
+    let q = sym (width-times (c6 .args .measure) (c6 .args .n) (c .before .before .if1 .taken)) in
     (h .0, q ∙ h .1, has-at q (h .2), has-at q (h .3))
 
 same-length : tie.Need-same-length
@@ -20,12 +21,17 @@ same-length-2 : tie.Need-same-length-2
 same-length-2 c = search needs
 
 returns : tie.Need-returns
-returns c = c .before .before .before .before .compose-times .ensures ∙ onto-times _ _ _ _ _ (c .before .before .before .before .before .before .before .if1 .taken)
+returns c =
+    let c4 = c .before .before .before .before in
+    let c7 = c4 .before .before .before in
+    c4 .compose-times .ensures ∙ onto-times _ _ _ _ _ (c7 .if1 .taken)
 
 compose-links-requires : tie.Need-compose-links-requires
 compose-links-requires c κs =
-    let h = c .before .before .before .before .before .before .before .pre in
-    let q = sym (width-links (c .before .before .before .before .before .before .before .args .measure) (c .before .before .before .before .before .before .before .args .n) (c .before .before .before .if1 .left)) in
+    let c3 = c .before .before .before in
+    let c7 = c3 .before .before .before .before in
+    let h = c7 .pre in
+    let q = sym (width-links (c7 .args .measure) (c7 .args .n) (c3 .if1 .left)) in
     (h .0, q ∙ h .1, has-at q (h .2), has-at q (h .3))
 
 same-length-3 : tie.Need-same-length-3
@@ -35,18 +41,30 @@ same-length-4 : tie.Need-same-length-4
 same-length-4 c = search needs
 
 returns-2 : tie.Need-returns-2
-returns-2 c = c .before .before .before .before .compose-links .ensures ∙ onto-reach _ _ _ _ _ (c .before .before .before .before .before .before .before .if2 .taken)
+returns-2 c =
+    let c4 = c .before .before .before .before in
+    let c7 = c4 .before .before .before in
+    c4 .compose-links .ensures ∙ onto-reach _ _ _ _ _ (c7 .if2 .taken)
 
 compose-with-requires : tie.Need-compose-with-requires
 compose-with-requires c κs =
-    let h = c .before .before .before .before .before .before .pre in
-    (c .before .before .if1 .left, c .before .if2 .left, search needs, has-at (sym (width-links (c .before .before .before .before .before .before .args .measure) (c .before .before .before .before .before .before .args .n) (c .before .before .if1 .left))) (h .2))
+    let c6 = c .before .before .before .before .before .before in
+    let h = c6 .pre in (
+      c .before .before .if1 .left,
+      c .before .if2 .left,
+      search needs,
+      has-at (sym (width-links (c6 .args .measure) (c6 .args .n) (c .before .before .if1 .left))) (h .2),
+    )
 
 same-length-5 : tie.Need-same-length-5
 same-length-5 c = search needs
 
 returns-3 : tie.Need-returns-3
-returns-3 c = c .before .before .compose-with .ensures ∙ onto-own _ _ _ _ _ _ (c .before .before .before .before .before .if1 .left) (c .before .before .before .before .if2 .left) (c .before .before .before .before .before .before .before .before .before .pre .5)
+returns-3 c =
+    let c4 = c .before .before .before .before in
+    let c5 = c4 .before in
+    let c9 = c5 .before .before .before .before in
+    c .before .before .compose-with .ensures ∙ onto-own _ _ _ _ _ _ (c5 .if1 .left) (c4 .if2 .left) (c9 .pre .5)
 
 pub compose-own-spec : {M : Type 1} → statement M
 compose-own-spec =

@@ -2,7 +2,8 @@
 -- Assumes nothing.
 use native.Mathlib.Omega.{arith}
 use native.Mathlib.Nat.{add-sub-cancel-left}
-use Rattle.area.specs.Parts.{part, putPart}
+use Rattle.lists.specs.Tab.{splice}
+use Rattle.area.specs.Parts.{part}
 use Rattle.area.proofs.Lent.{fits}
 use borrow.Author.Needs.{needs}
 use Rattle.area.proofs.compose_with.Statement.{statement}
@@ -36,7 +37,7 @@ same-length : tie.Need-same-length
 same-length c = search needs
 
 returns : tie.Need-returns
-unfolding putPart part
+unfolding splice part
 returns c = simp (add-sub-cancel-left, c .before .before .compose-words .ensures)
 
 pub compose-with-spec : {M : Type 1} → statement M

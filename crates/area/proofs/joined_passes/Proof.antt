@@ -115,7 +115,10 @@ is-union-requires c κs = search needs
 
 returns-2 : tie.Need-returns-2
 unfolding part
-returns-2 c = simp add-sub-cancel-left at (c .is-union .ensures) ∙ pass-union _ _ _ _ _ (c .before .before .before .before .before .before .pre .2 (c .before .before .before .before .if1 .left))
+returns-2 c =
+    let c4 = c .before .before .before .before in
+    let c6 = c4 .before .before in
+    simp add-sub-cancel-left at (c .is-union .ensures) ∙ pass-union _ _ _ _ _ (c6 .pre .2 (c4 .if1 .left))
 
 pub joined-passes-spec : {M : Type 1} → statement M
 joined-passes-spec =

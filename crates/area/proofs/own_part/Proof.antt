@@ -2,7 +2,8 @@
 -- Assumes nothing.
 use native.Mathlib.Omega.{arith}
 use native.Mathlib.Nat.{add-sub-cancel-left}
-use Rattle.area.specs.Parts.{putPart, ownAt}
+use Rattle.lists.specs.Tab.{splice}
+use Rattle.area.specs.Parts.{ownAt}
 use Rattle.area.proofs.Lent.{fits-at}
 use borrow.Author.Needs.{needs}
 use Rattle.area.proofs.own_part.Statement.{statement}
@@ -39,7 +40,7 @@ same-length : tie.Need-same-length
 same-length c = search needs
 
 returns : tie.Need-returns
-unfolding putPart ownAt
+unfolding splice ownAt
 returns c = simp (add-sub-cancel-left, c .before .before .before .before .width .ensures, c .before .before .own .ensures)
 
 pub own-part-spec : {M : Type 1} → statement M

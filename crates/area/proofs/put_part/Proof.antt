@@ -1,8 +1,7 @@
 -- `area::put_part` meets its contract. The part that is lent has `at + e - at` words, which is e.
 -- Assumes nothing.
 use native.Mathlib.Omega.{arith}
-use native.Mathlib.Nat.{add-sub-cancel-left}
-use Rattle.area.specs.Parts.{putPart}
+use Rattle.lists.proofs.Splice.{written-part}
 use Rattle.area.proofs.Lent.{fits}
 use borrow.Author.Needs.{needs}
 use Rattle.area.proofs.put_part.Statement.{statement}
@@ -36,8 +35,7 @@ same-length : tie.Need-same-length
 same-length c = search needs
 
 returns : tie.Need-returns
-unfolding putPart
-returns c = simp (add-sub-cancel-left, c .before .before .copy-over .ensures)
+returns c = written-part _ _ _ (c .before .before .copy-over .ensures)
 
 pub put-part-spec : {M : Type 1} → statement M
 put-part-spec =

@@ -1,7 +1,6 @@
 -- `area::zero_first` meets its contract.
 -- Assumes nothing.
-use native.Mathlib.Nat.{sub-zero}
-use Rattle.area.specs.Parts.{zeroed}
+use Rattle.lists.proofs.Splice.{written-first}
 use borrow.Author.Needs.{needs}
 use Rattle.area.proofs.zero_first.Statement.{statement}
 use Rattle.area.proofs.zero_first.Tie as tie
@@ -22,8 +21,7 @@ same-length : tie.Need-same-length
 same-length c = search needs
 
 returns : tie.Need-returns
-unfolding zeroed
-returns c = simp (sub-zero, c .before .before .zero-over .ensures)
+returns c = written-first _ _ (c .before .before .zero-over .ensures)
 
 pub zero-first-spec : {M : Type 1} → statement M
 zero-first-spec =

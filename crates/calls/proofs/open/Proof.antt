@@ -17,7 +17,9 @@ enum-told : tie.Need-enum-told
 enum-told c = search needs
 
 open-area-requires : tie.Need-open-area-requires
-open-area-requires c κs = open-clears (open-sound _ _ _ _ _ (sym (c .before .before .before .open-verdict .ensures) ∙ ap verdictSays (c .before .enum-told .given .1)))
+open-area-requires c κs =
+    let c3 = c .before .before .before in
+    open-clears (open-sound _ _ _ _ _ (sym (c3 .open-verdict .ensures) ∙ ap verdictSays (c .before .enum-told .given .1)))
 
 open-requires : tie.Need-open-requires
 open-requires c κs =

@@ -20,7 +20,10 @@ enum-told : tie.Need-enum-told
 enum-told c = search needs
 
 take-pick-requires : tie.Need-take-pick-requires
-take-pick-requires c κs = let t = pick-sound _ _ _ (sym (c .before .before .before .pick-verdict .ensures) ∙ ap verdictSays (c .before .enum-told .given .1)) in sound-takes (t .sound) (t .room) (t .below) (sym (t .shape))
+take-pick-requires c κs =
+    let c3 = c .before .before .before in
+    let t = pick-sound _ _ _ (sym (c3 .pick-verdict .ensures) ∙ ap verdictSays (c .before .enum-told .given .1)) in sound-takes (t .sound) (t .room)
+    (t .below) (sym (t .shape))
 
 enum-known-c : tie.Need-enum-known-c
 enum-known-c c = search needs
@@ -31,7 +34,8 @@ same-length c = search needs
 returns : tie.Need-returns
 returns c =
     let c10 = c .before .before .before .before .before .before .before .before .before .before in
-    let e = sym (c .before .before .before .before .before .before .pick-verdict .ensures) ∙ ap verdictSays (c .before .before .before .before .enum-told .given .1) in
+    let e = sym (c .before .before .before .before .before .before .pick-verdict .ensures)
+    ∙ ap verdictSays (c .before .before .before .before .enum-told .given .1) in
     let q = taken-state (c10 .args .p) (c10 .args .area .now) (c10 .args .words .now) e in
     (simp (e, c .before .before .take-pick .ensures .0, q), c .before .before .take-pick .ensures .1 ∙ sym (ap (λ (x : State). x .area) q))
 
@@ -42,7 +46,8 @@ returns-2 : tie.Need-returns-2
 returns-2 c =
     let c7 = c .before .before .before .before .before .before .before in
     let e = sym (c .before .before .before .pick-verdict .ensures) ∙ ap verdictSays (c .before .c .given .1) in
-    let q = refused-state (c7 .args .p) (c7 .args .area .now) (c7 .args .words .now) (ap (λ (x : ℕ). eqb x 0) e ∙ number-some (c .before .c .given .0 .0)) in
+    let q = refused-state (c7 .args .p) (c7 .args .area .now) (c7 .args .words .now)
+    (ap (λ (x : ℕ). eqb x 0) e ∙ number-some (c .before .c .given .0 .0)) in
     (simp (e, q), sym (ap (λ (x : State). x .area) q))
 
 pub pick-spec : {M : Type 1} → statement M

@@ -22,8 +22,11 @@ part-right-end c = search needs
 step-requires : tie.Need-step-requires
 step-requires c κs =
     let s = c .before .before .before .before .before in
-    let b = s .pre .0 .passed .able .few in
-    (s .pre .0, width-links (s .args .p .measure) (s .args .p .boards) (s .pre .1) ∙ lent-length _ _ _ (c .before .before .no-words .ensures) b)
+    let b = s .pre .0 .passed .able .few in (
+      s .pre .0,
+      width-links (s .args .p .settings .measure) (s .args .p .settings .boards) (s .pre .1)
+          ∙ lent-length _ _ _ (c .before .before .no-words .ensures) b,
+    )
 
 same-length : tie.Need-same-length
 same-length c = search needs

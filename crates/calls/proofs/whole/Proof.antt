@@ -17,7 +17,8 @@ enum-told : tie.Need-enum-told
 enum-told c = search needs
 
 div-m : tie.Need-div-m
-div-m c = let t = whole-sound _ _ _ _ (sym (c .before .before .whole-verdict .ensures) ∙ ap verdictSays (c .enum-told .given .1)) in let b = t .some-boards in omega arith
+div-m c = let t = whole-sound _ _ _ _ (sym (c .before .before .whole-verdict .ensures)
+    ∙ ap verdictSays (c .enum-told .given .1)) in let b = t .some-boards in omega arith
 
 whole-run-requires : tie.Need-whole-run-requires
 whole-run-requires c κs = whole-sound _ _ _ _ (sym (c .before .before .before .whole-verdict .ensures) ∙ ap verdictSays (c .before .enum-told .given .1))
@@ -31,7 +32,9 @@ same-length c = search needs
 returns : tie.Need-returns
 unfolding wholeSays wholeLeaves
 returns c =
-    let e = sym (c .before .before .before .before .before .before .whole-verdict .ensures) ∙ ap verdictSays (c .before .before .before .before .enum-told .given .1) in
+    let c4 = c .before .before .before .before in
+    let c6 = c4 .before .before in
+    let e = sym (c6 .whole-verdict .ensures) ∙ ap verdictSays (c4 .enum-told .given .1) in
     simp e (c .before .before .whole-run .ensures .0, c .before .before .whole-run .ensures .1)
 
 same-length-2 : tie.Need-same-length-2

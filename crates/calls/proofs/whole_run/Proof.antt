@@ -16,8 +16,10 @@ whole-start-requires c κs = search needs
 take-picks-requires : tie.Need-take-picks-requires
 unfolding wholeStart
 take-picks-requires c κs =
-    let s = c .before .before .before .before .before .before .before in
-    whole-starts _ _ _ _ _ _ (s .pre) (list-cost (s .args .measure) (s .args .m) (s .pre .cap)) (c .before .before .before .whole-start .ensures .place) (c .before .before .before .whole-start .kept .1 .1 .1 .1 .0)
+    let c3 = c .before .before .before in
+    let s = c3 .before .before .before .before in
+    whole-starts _ _ _ _ _ _ (s .pre) (list-cost (s .args .measure) (s .args .m) (s .pre .cap)) (c3 .whole-start .ensures .place)
+    (c3 .whole-start .kept .1 .1 .1 .1 .0)
 
 zero-needed-requires : tie.Need-zero-needed-requires
 zero-needed-requires c κs = search needs
@@ -35,12 +37,16 @@ same-length c = search needs
 returns : tie.Need-returns
 unfolding wholeReport
 returns c =
-    let s = c .before .before .before .before .before .before .before .before .before .before .before .before .before .before .before in
-    let b = c .before .before .before .before .before .before .before .before .before .before .before .whole-start .ensures in (
+    let c3 = c .before .before .before in
+    let c7 = c3 .before .before .before .before in
+    let c11 = c7 .before .before .before .before in
+    let s = c11 .before .before .before .before in
+    let b = c11 .whole-start .ensures in (
       c .report .ensures ∙ ap (λ (x : Place). reportSays (reported x) x)
-          (whole-ends (s .args .n) (s .args .measure) (s .args .m) (s .args .words .now) (s .args .area .now) (s .pre) b (c .before .before .before .before .before .before .before .before .before .before .before .whole-start .kept .1 .1 .1 .1 .0)
-          (c .before .before .before .before .before .before .before .take-picks .ensures .0)),
-      c .before .before .before .zero-needed .ensures ∙ whole-beyond (s .args .n) (s .args .measure) (s .args .m) (s .args .words .now) (s .args .area .now) _ b (c .before .before .before .before .before .before .before .take-picks .ensures .1 .beyond),
+          (whole-ends (s .args .n) (s .args .measure) (s .args .m) (s .args .words .now) (s .args .area .now) (s .pre) b (c11 .whole-start .kept .1 .1 .1 .1 .0)
+          (c7 .take-picks .ensures .0)),
+      c3 .zero-needed .ensures ∙ whole-beyond (s .args .n) (s .args .measure) (s .args .m) (s .args .words .now) (s .args .area .now) _ b
+          (c7 .take-picks .ensures .1 .beyond),
     )
 
 pub whole-run-spec : {M : Type 1} → statement M

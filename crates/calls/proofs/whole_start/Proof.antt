@@ -22,13 +22,20 @@ add-zero-part : tie.Need-add-zero-part
 add-zero-part c = search needs
 
 zero-part-requires : tie.Need-zero-part-requires
-zero-part-requires c κs = let s = c .before .before .before .before .before in (s .pre .few, has _ (s .args .m + 4) _ (s .args .m + 3) (s .pre .room) (omega arith) (omega arith))
+zero-part-requires c κs =
+    let c5 = c .before .before .before .before .before in
+    let s = c5 in (s .pre .few, has _ (s .args .m + 4) _ (s .args .m + 3) (s .pre .room) (omega arith) (omega arith))
 
 same-length : tie.Need-same-length
 same-length c = search needs
 
 returns : tie.Need-returns
-returns c = let s = c .before .before .before .before .before .before .before .before in start-other (s .args .n) (s .args .measure) (s .args .m) _ _ (s .pre) (c .before .before .before .before .if1 .taken) (c .before .before .before .before .before .«open» .ensures) (c .before .before .zero-part .ensures)
+returns c =
+    let c4 = c .before .before .before .before in
+    let c5 = c4 .before in
+    let c8 = c5 .before .before .before in
+    let s = c8 in start-other (s .args .n) (s .args .measure) (s .args .m) _ _ (s .pre) (c4 .if1 .taken) (c5 .«open» .ensures)
+    (c .before .before .zero-part .ensures)
 
 add-at : tie.Need-add-at
 add-at c = let k = c .before .before .before .before .pre .cap in omega arith
@@ -85,7 +92,7 @@ unite-picks-requires c κs =
       s .pre .some-picks,
       s .pre .cap,
       omega (arith, s .pre .words),
-      ap (λ (x : Place). x .compositions .0) (c .before .before .«open» .ensures),
+      ap (λ (x : Place). x .counts .compositions .0) (c .before .before .«open» .ensures),
     )
 
 same-length-2 : tie.Need-same-length-2
@@ -93,8 +100,11 @@ same-length-2 c = search needs
 
 returns-2 : tie.Need-returns-2
 returns-2 c =
-    let s = c .before .before .before .before .before .before .before .before in
-    simp add-sub-cancel-left (start-footprint (s .args .n) (s .args .measure) (s .args .m) _ _ (s .pre) (c .before .before .before .before .if1 .left) (c .before .before .before .before .before .«open» .ensures) (c .before .before .unite-picks .ensures))
+    let c4 = c .before .before .before .before in
+    let c5 = c4 .before in
+    let s = c5 .before .before .before in
+    simp add-sub-cancel-left (start-footprint (s .args .n) (s .args .measure) (s .args .m) _ _ (s .pre) (c4 .if1 .left) (c5 .«open» .ensures)
+    (c .before .before .unite-picks .ensures))
 
 pub whole-start-spec : {M : Type 1} → statement M
 whole-start-spec =

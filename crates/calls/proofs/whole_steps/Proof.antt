@@ -14,7 +14,8 @@ use Rattle.calls.proofs.whole_steps.Statement.{statement}
 use Rattle.calls.proofs.whole_steps.Tie as tie
 
 abbrev Inv-loop : tie.InvT-loop
-Inv-loop area₀ words m right₀ n q₀ k₀ area right q k = (n ≡ q₀ .boards) × Along q₀ words area₀ m k q area × (state q area ≡ bareSteps (kitOf q₀) (q₀ .boards) words k (state q₀ area₀)) × (length right ≡ length right₀)
+Inv-loop area₀ words m right₀ n q₀ k₀ area right q k = (n ≡ q₀ .settings .boards) × Along q₀ words area₀ m k q area
+    × (state q area ≡ bareSteps (kitOf (q₀ .settings)) (q₀ .settings .boards) words k (state q₀ area₀)) × (length right ≡ length right₀)
 
 abbrev μ-loop : tie.MeasureT-loop
 μ-loop area₀ words m right₀ n q₀ k₀ area right q k = m - k
@@ -44,16 +45,28 @@ same-length-2 : tie.Need-same-length-2 Inv-loop μ-loop
 same-length-2 c = c .before .before .before .before .loop .inv .3
 
 returns : tie.Need-returns Inv-loop μ-loop
-returns c = let v = c .before .before .before .before .loop .inv in along-finished (v .1) (v .2) (omega (arith, c .before .before .before .loop-test .taken)) (sym (c .before .before .is-finished .ensures) ∙ c .before .if1 .taken) (c .picks-taken .ensures)
+returns c =
+    let c3 = c .before .before .before in
+    let c4 = c3 .before in
+    let v = c4 .loop .inv in along-finished (v .1) (v .2) (omega (arith, c3 .loop-test .taken))
+    (sym (c .before .before .is-finished .ensures) ∙ c .before .if1 .taken) (c .picks-taken .ensures)
 
 mul-at : tie.Need-mul-at Inv-loop μ-loop
-mul-at c = let w = c .before .before .before .before .before .before .before .pre .0 .words in omega (arith, lent-end (c .before .before .before .before .before .before .before .args .p .boards) (c .before .before .loop-test .taken))
+mul-at c =
+    let c7 = c .before .before .before .before .before .before .before in
+    let w = c7 .pre .0 .words in omega (arith, lent-end (c7 .args .p .settings .boards) (c .before .before .loop-test .taken))
 
 add-step : tie.Need-add-step Inv-loop μ-loop
-add-step c = let w = c .before .before .before .before .before .before .before .before .pre .0 .words in omega (arith, lent-end (c .before .before .before .before .before .before .before .before .args .p .boards) (c .before .before .before .loop-test .taken))
+add-step c =
+    let c3 = c .before .before .before in
+    let c8 = c3 .before .before .before .before .before in
+    let w = c8 .pre .0 .words in omega (arith, lent-end (c8 .args .p .settings .boards) (c3 .loop-test .taken))
 
 mul-step : tie.Need-mul-step Inv-loop μ-loop
-mul-step c = let w = c .before .before .before .before .before .before .before .before .pre .0 .words in omega (arith, lent-end (c .before .before .before .before .before .before .before .before .args .p .boards) (c .before .before .before .loop-test .taken))
+mul-step c =
+    let c3 = c .before .before .before in
+    let c8 = c3 .before .before .before .before .before in
+    let w = c8 .pre .0 .words in omega (arith, lent-end (c8 .args .p .settings .boards) (c3 .loop-test .taken))
 
 sub-step : tie.Need-sub-step Inv-loop μ-loop
 sub-step c = search needs
@@ -62,31 +75,42 @@ part-step-start : tie.Need-part-step-start Inv-loop μ-loop
 part-step-start c = search needs
 
 part-step-end : tie.Need-part-step-end Inv-loop μ-loop
-part-step-end c = let w = c .before .before .before .before .before .before .before .before .pre .0 .words in omega (arith, lent-end (c .before .before .before .before .before .before .before .before .args .p .boards) (c .before .before .before .loop-test .taken))
+part-step-end c =
+    let c3 = c .before .before .before in
+    let c8 = c3 .before .before .before .before .before in
+    let w = c8 .pre .0 .words in omega (arith, lent-end (c8 .args .p .settings .boards) (c3 .loop-test .taken))
 
 step-requires : tie.Need-step-requires Inv-loop μ-loop
 step-requires c κs =
-    let s = c .before .before .before .before .before .before .before .before .before .before in
-    let v = c .before .before .before .before .before .before .loop .inv in (
-      rw (lent-part (s .args .p .boards) (c .before .before .before .before .before .before .loop .k) (s .args .words .now)) (along-takes (v .1) (c .before .before .before .before .before .loop-test .taken)),
-      lends-kept (s .args .p) (c .before .before .before .before .before .before .loop .q) (v .1 .boards) (v .1 .measure) (v .3) (s .pre .1),
+    let c5 = c .before .before .before .before .before in
+    let c6 = c5 .before in
+    let s = c6 .before .before .before .before in
+    let v = c6 .loop .inv in (
+      rw (lent-part (s .args .p .settings .boards) (c6 .loop .k) (s .args .words .now)) (along-takes (v .1) (c5 .loop-test .taken)),
+      lends-kept (v .1 .settings) (v .3) (s .pre .1),
     )
 
 add-k : tie.Need-add-k Inv-loop μ-loop
-add-k c = search needs
+add-k c =
+    let c10 = c .before .before .before .before .before .before .before .before .before .before in
+    let c15 = c10 .before .before .before .before .before in
+    omega (arith, c15 .pre .0 .ready .able .cap, c15 .pre .0 .limit, c10 .loop-test .taken)
 
 loop-less : tie.Need-loop-less Inv-loop μ-loop
 loop-less c = search needs
 
 loop-again : tie.Need-loop-again Inv-loop μ-loop
 loop-again c =
-    let s = c .before .before .before .before .before .before .before .before .before .before .before .before .before .before .before in
-    let v = c .before .before .before .before .before .before .before .before .before .before .before .loop .inv in
-    let e = rw (lent-part (s .args .p .boards) (c .before .before .before .before .before .before .before .before .before .before .before .loop .k) (s .args .words .now)) at (c .before .before .before .before .step .ensures) in (
+    let c4 = c .before .before .before .before in
+    let c10 = c4 .before .before .before .before .before .before in
+    let c11 = c10 .before in
+    let s = c11 .before .before .before .before in
+    let v = c11 .loop .inv in
+    let e = rw (lent-part (s .args .p .settings .boards) (c11 .loop .k) (s .args .words .now)) at (c4 .step .ensures) in (
       search needs,
-      along-bare (v .1) (c .before .before .before .before .before .before .before .before .before .before .loop-test .taken) e,
+      along-bare (v .1) (c10 .loop-test .taken) e,
       bare-next (v .1) (v .2) e,
-      c .before .before .before .before .step .kept .1 .1 .1 .0 ∙ v .3,
+      c4 .step .kept .1 .1 .1 .0 ∙ v .3,
     )
 
 same-length-3 : tie.Need-same-length-3 Inv-loop μ-loop

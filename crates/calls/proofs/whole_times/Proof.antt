@@ -30,13 +30,18 @@ part-right-start : tie.Need-part-right-start
 part-right-start c = search needs
 
 part-right-end : tie.Need-part-right-end
-part-right-end c = let b = c .before .before .before .before .pre .0 .ready .able .few in omega (arith, mul-le-mul b b, ap length (c .before .no-times .ensures) ∙ length-zeros 2048)
+part-right-end c =
+    let c4 = c .before .before .before .before in
+    let b = c4 .pre .0 .ready .able .few in omega (arith, mul-le-mul b b, ap length (c .before .no-times .ensures) ∙ length-zeros 2048)
 
 whole-steps-requires : tie.Need-whole-steps-requires
 whole-steps-requires c κs =
     let s = c .before .before .before .before .before in
-    let b = s .pre .0 .ready .able .few in
-    (s .pre .0, width-times (s .args .p .measure) (s .args .p .boards) (s .pre .1) ∙ lent-length _ _ _ (c .before .before .no-times .ensures) (omega (arith, mul-le-mul b b)))
+    let b = s .pre .0 .ready .able .few in (
+      s .pre .0,
+      width-times (s .args .p .settings .measure) (s .args .p .settings .boards) (s .pre .1)
+          ∙ lent-length _ _ _ (c .before .before .no-times .ensures) (omega (arith, mul-le-mul b b)),
+    )
 
 same-length : tie.Need-same-length
 same-length c = search needs

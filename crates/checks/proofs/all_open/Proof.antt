@@ -3,9 +3,9 @@
 use mathlib.Core.Path.{ap, _∙_}
 use Prim.Native.Nat.{ℕ}
 use Rattle.lists.specs.Tab.{tab}
+use Rattle.lists.proofs.Splice.{written-first}
 use Rattle.links.specs.Tables.{without}
 use Rattle.checks.specs.Checks.{allOpen}
-use Rattle.checks.proofs.AllOpen.{open-padded}
 use borrow.Author.Needs.{needs}
 use Rattle.checks.proofs.all_open.Statement.{statement}
 use Rattle.checks.proofs.all_open.Tie as tie
@@ -32,8 +32,8 @@ returns : tie.Need-returns
 unfolding allOpen
 returns c =
     let c4 = c .before .before .before .before in
-    open-padded _ _ _ (c .before .before .before .no-words .ensures)
-    (c .before .fill-rows .ensures ∙ ap (λ (x : ℕ). tab (without x) (c4 .before .args .n)) (c4 .allowed-bits .ensures))
+    simp (c .before .before .before .no-words .ensures)
+    (written-first _ _ (c .before .fill-rows .ensures ∙ ap (λ (x : ℕ). tab (without x) (c4 .before .args .n)) (c4 .allowed-bits .ensures)))
 
 pub all-open-spec : {M : Type 1} → statement M
 all-open-spec =

@@ -1,8 +1,9 @@
 -- `checks::are_clean` meets its contract: the union is listed exactly when each pick is (`listed-united`), and the list is that of all links
 -- (`listed-clean-picks`). Assumes nothing.
 use mathlib.Core.Path.{ap₂, _∙_}
+use Rattle.lists.proofs.Splice.{lent-first}
 use Rattle.checks.specs.Checks.{listed}
-use Rattle.checks.proofs.AllOpen.{listed-clean-picks, open-lent}
+use Rattle.checks.proofs.AllOpen.{listed-clean-picks, length-open}
 use Rattle.checks.proofs.United.{listed-united, union-room, union-lent-room, union-lent}
 use borrow.Author.Needs.{needs}
 use Rattle.checks.proofs.are_clean.Statement.{statement}
@@ -58,7 +59,7 @@ returns c =
     let u = c .before .before .before .before .before .before in
     let z = u .before .before in
     let a = z .before .before .before in
-    let rows = open-lent _ _ (z .before .all-open .ensures) in
+    let rows = lent-first _ (length-open _) (z .before .all-open .ensures) in
     let any = union-lent _ _ _ _ _ (a .pre .0) (z .no-words .ensures) (u .unite-all .ensures) in
     c .is-listed .ensures ∙ ap₂ (listed (a .args .n)) rows any ∙ listed-united _ _ _ _ ∙ listed-clean-picks _ _ _ (a .pre .0)
 

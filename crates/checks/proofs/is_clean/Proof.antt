@@ -51,7 +51,8 @@ loop-again c =
     let w = c3 .before .before .before .args .words .now in
     let hw : getD w u 0 < 2 ^ 32 = omega (arith, c .before .shared-slice-known2 .given u) in
     let bits = bitAnd (getD w u 0) (2 ^ 32 - 1 - without (allowed n) u) in
-    let turn = gather (cleanRow n w) u (c3 .loop .bad) bits (c3 .loop .inv .1) (clean-word n w u (c3 .before .before .before .pre .0) (c .before .before .loop-test .taken) hw) in
+    let turn = gather (cleanRow n w) u (c3 .loop .bad) bits (c3 .loop .inv .1) (clean-word n w u (c3 .before .before .before .pre .0)
+    (c .before .before .loop-test .taken) hw) in
     (search needs, simp (c .cleared .ensures, c3 .before .allowed-bits .ensures) turn)
 
 returns : tie.Need-returns Inv-loop μ-loop

@@ -1,21 +1,21 @@
--- `columns::put_text` meets its contract. The invariant is `Texted`.
+-- `columns::put_text` meets its contract. The invariant is `Copied`.
 -- Assumes nothing.
 use Prim.Native.Nat.{_-_}
 use native.Mathlib.Omega.{arith}
 use mathlib.Core.Path.{refl}
-use Rattle.columns.proofs.Text.{Texted, texted-start, texted-turn, texted-whole}
+use Rattle.lists.proofs.Splice.{Copied, copied-start, copied-turn, copied-all}
 use borrow.Author.Needs.{needs}
 use Rattle.columns.proofs.put_text.Statement.{statement}
 use Rattle.columns.proofs.put_text.Tie as tie
 
 abbrev Inv-loop : tie.InvT-loop
-Inv-loop buf₀ at text n i₀ buf i = Texted buf₀ at text buf i
+Inv-loop buf₀ at text n i₀ buf i = Copied at text buf₀ buf i
 
 abbrev μ-loop : tie.MeasureT-loop
 μ-loop buf₀ at text n i₀ buf i = n - i
 
 loop-holds : tie.Need-loop-holds Inv-loop μ-loop
-loop-holds c = texted-start _ _ _
+loop-holds c = copied-start (omega arith)
 
 shared-slice-read-buf : tie.Need-shared-slice-read-buf Inv-loop μ-loop
 shared-slice-read-buf c = search needs
@@ -33,7 +33,7 @@ loop-less : tie.Need-loop-less Inv-loop μ-loop
 loop-less c = search needs
 
 loop-again : tie.Need-loop-again Inv-loop μ-loop
-loop-again c = texted-turn (c .before .before .loop .inv) (omega arith) (omega arith)
+loop-again c = copied-turn (c .before .before .loop .inv) refl (omega arith)
 
 add-result : tie.Need-add-result Inv-loop μ-loop
 add-result c = search needs
@@ -42,7 +42,7 @@ same-length : tie.Need-same-length Inv-loop μ-loop
 same-length c = search needs
 
 returns : tie.Need-returns Inv-loop μ-loop
-returns c = texted-whole (c .before .loop .inv) (omega arith) refl
+returns c = record { behind = refl; bytes = copied-all (c .before .loop .inv) (omega arith) }
 
 pub put-text-spec : {M : Type 1} → statement M
 put-text-spec =

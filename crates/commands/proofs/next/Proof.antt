@@ -1,12 +1,11 @@
--- `commands::next` meets its contract. `admit-other` answers the other case of the `let .. else`.
+-- `commands::next` meets its contract. `next-other` answers the other case of the `let .. else`.
 -- In each answer m is the place behind the `let .. else`, and i the arm of a link.
 -- Assumes nothing.
 use mathlib.Core.Path.{sym, _∙_}
 use borrow.Author.Tests.{le-leb, lt-leb}
 use Rattle.commands.proofs.Admit.{in-links}
-use Rattle.commands.proofs.Others.{admit-other}
-use Rattle.commands.specs.Commands.{refuse}
-use Rattle.commands.specs.Causes.{next as nextOf}
+use Rattle.commands.proofs.Others.{next-then, next-other}
+use Rattle.model.specs.Causes.{firstOr}
 use borrow.Author.Needs.{needs}
 use Rattle.commands.proofs.next.Statement.{statement}
 use Rattle.commands.proofs.next.Tie as tie
@@ -18,8 +17,8 @@ enum-known-command : tie.Need-enum-known-command
 enum-known-command c = search needs
 
 returns : tie.Need-returns
-unfolding nextOf
-returns c = simp (sym (c .before .command-at .ensures)) (sym (admit-other _ _ _ _ _ (c .match .keys2)))
+unfolding firstOr
+returns c = simp (next-then, sym (c .before .command-at .ensures)) (sym (next-other _ _ _ _ _ (c .match .keys2)))
 
 enum-known-item : tie.Need-enum-known-item
 enum-known-item c = search needs
@@ -28,10 +27,17 @@ no-link-requires : tie.Need-no-link-requires
 no-link-requires c κs = search needs
 
 returns-2 : tie.Need-returns-2
-unfolding nextOf refuse
-returns-2 c = let i = c .before .before .before in
+unfolding firstOr
+returns-2 c =
+    let i = c .before .before .before in
     let m = i .before .before .before in
-    simp (sym (m .before .before .command-at .ensures) ∙ m .command .given .1, i .item .given .1, sym (c .before .no-link .ensures) ∙ c .if1 .taken)
+    simp (
+      next-then,
+      sym (m .before .before .command-at .ensures) ∙ m .command .given .1,
+      i .item .given .1,
+      sym (c .before .no-link .ensures)
+          ∙ c .if1 .taken,
+    )
 
 is-unchanged-requires : tie.Need-is-unchanged-requires
 is-unchanged-requires c κs = let m = c .before .before .before .before .before .before in
@@ -39,41 +45,41 @@ is-unchanged-requires c κs = let m = c .before .before .before .before .before 
     in-links _ _ _ _ (sym (c .before .no-link .ensures) ∙ c .if1 .left) (pre .0) (pre .1)
 
 returns-3 : tie.Need-returns-3
-unfolding nextOf refuse
+unfolding firstOr
 returns-3 c = let a = c .before .before in
     let i = a .before .before .before in
     let m = i .before .before .before in
     let e = sym (m .before .before .command-at .ensures) ∙ m .command .given .1 in
-    simp (e, i .item .given .1, sym (a .before .no-link .ensures) ∙ a .if1 .left, sym (c .before .is-unchanged .ensures) ∙ c .if2 .taken)
+    simp (next-then, e, i .item .given .1, sym (a .before .no-link .ensures) ∙ a .if1 .left, sym (c .before .is-unchanged .ensures) ∙ c .if2 .taken)
 
 enum-told : tie.Need-enum-told
 enum-told c = search needs
 
 returns-4 : tie.Need-returns-4
-unfolding nextOf refuse
+unfolding firstOr
 returns-4 c = let m = c .before .before .before .before in
-    simp (sym (m .before .before .command-at .ensures) ∙ m .command .given .1, c .before .enum-told .given .1, le-leb _ _ (c .if3 .taken))
+    simp (next-then, sym (m .before .before .command-at .ensures) ∙ m .command .given .1, c .before .enum-told .given .1, le-leb _ _ (c .if3 .taken))
 
 enum-told-2 : tie.Need-enum-told-2
 enum-told-2 c = search needs
 
 returns-5 : tie.Need-returns-5
-unfolding nextOf refuse
+unfolding firstOr
 returns-5 c = let a = c .before .before in
     let i = a .before .before .before in
     let m = i .before .before .before in
     let e = sym (m .before .before .command-at .ensures) ∙ m .command .given .1 in
-    simp (e, i .item .given .1, sym (a .before .no-link .ensures) ∙ a .if1 .left, sym (c .before .is-unchanged .ensures) ∙ c .if2 .left)
+    simp (next-then, e, i .item .given .1, sym (a .before .no-link .ensures) ∙ a .if1 .left, sym (c .before .is-unchanged .ensures) ∙ c .if2 .left)
 
 returns-6 : tie.Need-returns-6
-unfolding nextOf refuse
+unfolding firstOr
 returns-6 c = let m = c .before .before .before .before in
-    simp (sym (m .before .before .command-at .ensures) ∙ m .command .given .1, c .before .enum-told .given .1, lt-leb _ _ (c .if3 .left))
+    simp (next-then, sym (m .before .before .command-at .ensures) ∙ m .command .given .1, c .before .enum-told .given .1, lt-leb _ _ (c .if3 .left))
 
 returns-7 : tie.Need-returns-7
-unfolding nextOf
+unfolding firstOr
 returns-7 c = let m = c .before .before .before in
-    simp (sym (m .before .before .command-at .ensures) ∙ m .command .given .1, c .enum-told2 .given .1)
+    simp (next-then, sym (m .before .before .command-at .ensures) ∙ m .command .given .1, c .enum-told2 .given .1)
 
 pub next-spec : {M : Type 1} → statement M
 next-spec =

@@ -2,8 +2,8 @@
 -- Assumes nothing.
 use borrow.Author.Tests.{not-true, not-false}
 use mathlib.Core.Path.{sym, _∙_}
-use Rattle.place.proofs.Laws.{and-step, and-stop}
 use borrow.Author.Needs.{needs}
+use Rattle.model.proofs.Logic.{and-step, and-stop}
 use Rattle.crossing.proofs.are_flags.Statement.{statement}
 use Rattle.crossing.proofs.are_flags.Tie as tie
 

@@ -1,6 +1,8 @@
 -- `crossing::cause_word` meets its contract. A number of 01 fits a word.
 -- Assumes nothing.
-use Rattle.crossing.proofs.Fits.{number-small}
+use native.Mathlib.Omega.{arith}
+use Rattle.model.proofs.Refusals.{number-range}
+use Rattle.crossing.proofs.Fits.{small}
 use borrow.Author.Needs.{needs}
 use Rattle.crossing.proofs.cause_word.Statement.{statement}
 use Rattle.crossing.proofs.cause_word.Tie as tie
@@ -9,7 +11,7 @@ number-of-requires : tie.Need-number-of-requires
 number-of-requires c κs = search needs
 
 narrow-requires : tie.Need-narrow-requires
-narrow-requires c κs = rw (c .number-of .ensures) (number-small (c .before .args .c))
+narrow-requires c κs = rw (c .number-of .ensures) (small (omega (arith, number-range (c .before .args .c) .1)))
 
 returns : tie.Need-returns
 returns c = search needs

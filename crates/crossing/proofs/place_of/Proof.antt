@@ -31,7 +31,23 @@ wide-requires-8 c κs = search needs
 
 returns : tie.Need-returns
 unfolding placeOf
-returns c = simp (c .before .before .before .before .before .before .before .before .before .wide .ensures, c .before .before .before .before .before .before .before .before .wide2 .ensures, c .before .before .before .before .before .before .before .wide3 .ensures, c .before .before .before .before .before .before .wide4 .ensures, c .before .before .before .before .before .wide5 .ensures, c .before .before .before .before .wide6 .ensures, c .before .wide7 .ensures, c .wide8 .ensures)
+returns c =
+    let c4 = c .before .before .before .before in
+    let c5 = c4 .before in
+    let c6 = c5 .before in
+    let c7 = c6 .before in
+    let c8 = c7 .before in
+    let c9 = c8 .before in
+    simp (
+      c9 .wide .ensures,
+      c8 .wide2 .ensures,
+      c7 .wide3 .ensures,
+      c6 .wide4 .ensures,
+      c5 .wide5 .ensures,
+      c4 .wide6 .ensures,
+      c .before .wide7 .ensures,
+      c .wide8 .ensures,
+    )
 
 pub place-of-spec : {M : Type 1} → statement M
 place-of-spec =

@@ -5,6 +5,7 @@ use mathlib.Core.Bool.{true}
 use Prim.Native.Nat.{_-_, _*_}
 use native.Mathlib.Omega.{arith}
 use Rattle.times.specs.Times.{cell}
+use Rattle.lists.proofs.Splice.{written-part}
 use Rattle.times.proofs.Rows.{row-le, part-length, Rowed, rowed-start, rowed-turn, rowed-all}
 use Rattle.folds.specs.Folds.{joinedRow}
 use Rattle.folds.proofs.Gathered.{joined-lent}
@@ -96,7 +97,8 @@ loop-again c =
     let c7 = c6 .before in
     let c11 = c7 .before .before .before .before in
     rowed-turn (c7 .loop .inv) (c6 .loop-test .taken)
-    (c .before .before .cross-row .ensures ∙ joined-lent true (c11 .args .n) (c7 .loop .u) (c11 .args .half .now) (c11 .args .folds .now))
+    (written-part _ _ _ (c .before .before .cross-row .ensures ∙ joined-lent true (c11 .args .n) (c7 .loop .u) (c11 .args .half .now)
+    (c11 .args .folds .now)))
 
 same-length : tie.Need-same-length Inv-loop μ-loop
 same-length c = search needs

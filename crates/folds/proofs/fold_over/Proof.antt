@@ -5,6 +5,7 @@ use mathlib.Core.Path.{_∙_}
 use Prim.Native.Nat.{_-_, _*_}
 use native.Mathlib.Omega.{arith}
 use Rattle.times.specs.Times.{cell}
+use Rattle.lists.proofs.Splice.{written-part}
 use Rattle.times.proofs.Rows.{row-le, part-length, Rowed, rowed-start, rowed-read, rowed-turn, rowed-all}
 use Rattle.folds.specs.Folds.{joinedRow}
 use Rattle.folds.proofs.Gathered.{joined-lent}
@@ -75,8 +76,8 @@ loop-again c =
     let c6 = c5 .before in
     let c9 = c6 .before .before .before in
     rowed-turn (c6 .loop .inv) (c5 .loop-test .taken)
-    (c .before .before .take-fold .ensures
-    ∙ rw (rowed-read (c6 .loop .inv)) (joined-lent false (c9 .args .n) (c6 .loop .u) (c9 .args .half .now) (c9 .args .folds .now)))
+    (written-part _ _ _ (c .before .before .take-fold .ensures
+    ∙ rw (rowed-read (c6 .loop .inv)) (joined-lent false (c9 .args .n) (c6 .loop .u) (c9 .args .half .now) (c9 .args .folds .now))))
 
 same-length : tie.Need-same-length Inv-loop μ-loop
 same-length c = search needs

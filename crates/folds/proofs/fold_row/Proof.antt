@@ -16,7 +16,8 @@ same-length : tie.Need-same-length
 same-length c = search needs
 
 returns : tie.Need-returns
-returns c = let c7 = c .before .before .before .before .before .before .before in fold-empty (c7 .args .late) (c7 .args .n) (c7 .args .later .now) (c .before .before .before .before .if1 .taken) (c .before .before .zero-over .ensures)
+returns c = let c7 = c .before .before .before .before .before .before .before in fold-empty (c7 .args .late) (c7 .args .n) (c7 .args .later .now)
+    (c .before .before .before .before .if1 .taken) (c .before .before .zero-over .ensures)
 
 board-in-requires : tie.Need-board-in-requires
 board-in-requires c κs = search needs
@@ -58,7 +59,9 @@ returns-2 : tie.Need-returns-2
 returns-2 c =
     let c10 = c .before .before .before .before .before .before .before .before .before .before in
     let c14 = c10 .before .before .before .before in
-    fold-first (c14 .args .late) (c14 .args .n) (c14 .args .later .now) (c14 .args .set) (c10 .board-in .result) (c14 .pre .0) (bit-below _ (c14 .pre .1 .0) (c10 .board-in .ensures .1)) (c10 .board-in .ensures .1) (c .before .before .before .cleared .ensures) (c .before .before .before .before .before .before .before .copy-over .ensures)
+    fold-first (c14 .args .late) (c14 .args .n) (c14 .args .later .now) (c14 .args .set) (c10 .board-in .result) (c14 .pre .0) (bit-below _ (c14 .pre .1 .0)
+    (c10 .board-in .ensures .1)) (c10 .board-in .ensures .1) (c .before .before .before .cleared .ensures)
+    (c .before .before .before .before .before .before .before .copy-over .ensures)
     (c .before .before .fold-set .ensures)
 
 pub fold-row-spec : {M : Type 1} → statement M

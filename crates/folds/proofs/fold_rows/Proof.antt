@@ -1,8 +1,6 @@
 -- `folds::fold_rows` meets its contract. The invariant is `Rowed`.
 -- Assumes nothing.
-use mathlib.Core.Path.{refl, sym, subst}
-use mathlib.Core.List.{List}
-use Prim.Native.Nat.{ℕ, _+_, _-_}
+use Prim.Native.Nat.{_-_}
 use Rattle.times.proofs.Rows.{Rowed, rowed-start, rowed-turn, rowed-all}
 use Rattle.folds.specs.Folds.{foldOf}
 use Rattle.folds.proofs.Gathered.{shared}
@@ -32,10 +30,8 @@ loop-less c = search needs
 
 loop-again : tie.Need-loop-again Inv-loop μ-loop
 loop-again c =
-    let c5 = c .before .before .before .before .before in
-    let c9 = c5 .before .before .before .before in
-    subst (λ (t : List ℕ). Rowed (c9 .args .n) (foldOf (c9 .args .late) (c9 .args .n) (c9 .args .later .now) (c9 .args .sets .now)) (c9 .args .folds .now) t (c5 .loop .u + 1)) (sym (c .before .before .write-fold .ensures))
-    (rowed-turn (c5 .loop .inv) (c .before .before .before .before .loop-test .taken) refl)
+    let l = c .before .before .before .before in
+    rowed-turn (l .before .loop .inv) (l .loop-test .taken) (c .before .before .write-fold .ensures)
 
 same-length : tie.Need-same-length Inv-loop μ-loop
 same-length c = search needs

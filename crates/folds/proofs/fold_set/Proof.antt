@@ -39,7 +39,9 @@ part-fold-end : tie.Need-part-fold-end Inv-loop μ-loop
 part-fold-end c = omega (arith, row-le _ (folded-below (c .before .before .before .loop .inv) _ (c .before .board-in .ensures .1)))
 
 fold-requires : tie.Need-fold-requires Inv-loop μ-loop
-fold-requires c κs = (c .before .before .before .before .loop .inv .size, part-length _ _ _ (omega (arith, row-le _ (folded-below (c .before .before .before .before .loop .inv) _ (c .before .before .board-in .ensures .1)))))
+fold-requires c κs =
+    let c4 = c .before .before .before .before in
+    (c4 .loop .inv .size, part-length _ _ _ (omega (arith, row-le _ (folded-below (c4 .loop .inv) _ (c .before .before .board-in .ensures .1)))))
 
 cleared-requires : tie.Need-cleared-requires Inv-loop μ-loop
 cleared-requires c κs = search needs
@@ -47,12 +49,14 @@ cleared-requires c κs = search needs
 loop-less : tie.Need-loop-less Inv-loop μ-loop
 loop-less c =
     let c8 = c .before .before .before .before .before .before .before .before in
-    rw (c .cleared .ensures) (folded-less (c8 .loop .inv) _ (c8 .before .before .before .pre .0) (c .before .before .before .before .before .before .board-in .ensures .1))
+    rw (c .cleared .ensures) (folded-less (c8 .loop .inv) _ (c8 .before .before .before .pre .0)
+    (c .before .before .before .before .before .before .board-in .ensures .1))
 
 loop-again : tie.Need-loop-again Inv-loop μ-loop
 loop-again c =
     let c8 = c .before .before .before .before .before .before .before .before in
-    folded-next (c8 .loop .inv) _ (c8 .before .before .before .pre .0) (c .before .before .before .before .before .before .board-in .ensures .1) (c .cleared .ensures) (c .before .before .before .fold .ensures)
+    folded-next (c8 .loop .inv) _ (c8 .before .before .before .pre .0) (c .before .before .before .before .before .before .board-in .ensures .1)
+    (c .cleared .ensures) (c .before .before .before .fold .ensures)
 
 same-length : tie.Need-same-length Inv-loop μ-loop
 same-length c = sym (c .before .loop .inv .size) ∙ c .before .before .before .before .pre .1 .1 .0

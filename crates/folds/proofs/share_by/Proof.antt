@@ -1,11 +1,9 @@
 -- `folds::share_by` meets its contract.
 -- Assumes nothing.
-use mathlib.Core.Path.{ap, _∙_}
-use mathlib.Core.List.{List}
-use Prim.Native.Nat.{ℕ}
+use mathlib.Core.Path.{_∙_}
 use native.Mathlib.Omega.{arith}
+use Rattle.lists.proofs.Splice.{written-part}
 use Rattle.times.proofs.Rows.{row-le}
-use Rattle.folds.specs.Folds.{putRow}
 use borrow.Author.Needs.{needs}
 use Rattle.folds.proofs.share_by.Statement.{statement}
 use Rattle.folds.proofs.share_by.Tie as tie
@@ -47,7 +45,9 @@ part-copy-over-start-2 : tie.Need-part-copy-over-start-2
 part-copy-over-start-2 c = search needs
 
 part-copy-over-end-2 : tie.Need-part-copy-over-end-2
-part-copy-over-end-2 c = let p = c .before .before .before .before .before .before .before .before .before .before .pre in omega (arith, row-le _ (p .0), p .1 .1 .1)
+part-copy-over-end-2 c =
+    let p = c .before .before .before .before .before .before .before .before .before .before .pre in
+    omega (arith, row-le _ (p .0), p .1 .1 .1)
 
 copy-over-requires-2 : tie.Need-copy-over-requires-2
 copy-over-requires-2 c κs = search needs
@@ -61,8 +61,7 @@ same-length-2 c = search needs
 returns : tie.Need-returns
 returns c =
     let c7 = c .before .before .before .before .before .before .before in
-    let c15 = c7 .before .before .before .before .before .before .before .before in
-    ap (λ (x : List ℕ). putRow (c15 .args .n) (c15 .args .folds .now) (c15 .args .d .0) x) (c .before .before .copy-over2 .ensures ∙ c7 .copy-over .ensures)
+    written-part _ _ _ (c .before .before .copy-over2 .ensures ∙ c7 .copy-over .ensures)
 
 pub share-by-spec : {M : Type 1} → statement M
 share-by-spec =

@@ -12,10 +12,12 @@ wrapping-sub-u32-requires-2 : tie.Need-wrapping-sub-u32-requires-2
 wrapping-sub-u32-requires-2 c κs = search needs
 
 returns : tie.Need-returns
-returns c = sooner-first _ _ _ _ (search needs) (search needs) (c .before .before .wrapping-sub-u32 .ensures) (c .before .wrapping-sub-u322 .ensures) (c .if1 .taken)
+returns c = sooner-first _ _ _ _ (search needs) (search needs) (c .before .before .wrapping-sub-u32 .ensures) (c .before .wrapping-sub-u322 .ensures)
+    (c .if1 .taken)
 
 returns-2 : tie.Need-returns-2
-returns-2 c = sooner-second _ _ _ _ (search needs) (search needs) (c .before .before .wrapping-sub-u32 .ensures) (c .before .wrapping-sub-u322 .ensures) (c .if1 .left)
+returns-2 c = sooner-second _ _ _ _ (search needs) (search needs) (c .before .before .wrapping-sub-u32 .ensures) (c .before .wrapping-sub-u322 .ensures)
+    (c .if1 .left)
 
 pub the-sooner-spec : {M : Type 1} → statement M
 the-sooner-spec = tie.close (tie.spec wrapping-sub-u32-requires wrapping-sub-u32-requires-2 returns returns-2)

@@ -3,6 +3,7 @@
 use Prim.Native.Nat.{_-_}
 use native.Mathlib.Omega.{arith}
 use Rattle.times.specs.Times.{cell}
+use Rattle.lists.proofs.Splice.{written-part}
 use Rattle.times.proofs.Rows.{row-le, Rowed, rowed-start, rowed-turn, rowed-all}
 use borrow.Author.Needs.{needs}
 use Rattle.folds.proofs.turn.Statement.{statement}
@@ -45,7 +46,9 @@ loop-less : tie.Need-loop-less Inv-loop μ-loop
 loop-less c = search needs
 
 loop-again : tie.Need-loop-again Inv-loop μ-loop
-loop-again c = rowed-turn (c .before .before .before .before .before .loop .inv) (c .before .before .before .before .loop-test .taken) (c .before .before .turn-row .ensures)
+loop-again c =
+    let l = c .before .before .before .before in
+    rowed-turn (l .before .loop .inv) (l .loop-test .taken) (written-part _ _ _ (c .before .before .turn-row .ensures))
 
 same-length : tie.Need-same-length Inv-loop μ-loop
 same-length c = search needs

@@ -2,10 +2,11 @@
 -- Assumes nothing.
 use mathlib.Core.Path.{ap, _∙_}
 use mathlib.Core.List.{List}
-use Prim.Native.Nat.{ℕ}
+use Prim.Native.Nat.{ℕ, _*_}
 use native.Mathlib.Omega.{arith}
+use Rattle.lists.specs.Tab.{splice}
+use Rattle.lists.proofs.Splice.{written-part}
 use Rattle.times.proofs.Rows.{row-le}
-use Rattle.folds.specs.Folds.{putRow}
 use Rattle.folds.proofs.Gathered.{same-fold}
 use borrow.Author.Needs.{needs}
 use Rattle.folds.proofs.write_fold.Statement.{statement}
@@ -25,8 +26,9 @@ returns c =
     let c5 = c .before .before .before .before .before in
     let c9 = c5 .before .before .before .before in
     c .before .before .share .ensures
-    ∙ ap (λ (x : List ℕ). putRow (c9 .args .n) (c9 .args .folds .now) (c9 .args .own .0) x)
-    (same-fold (c9 .args .late) (c9 .args .n) (c9 .args .later .now) (c9 .args .sets .now) (c9 .args .own .0) (c9 .args .folds .now) (c5 .first-same .result) (c9 .pre) (c .before .before .before .before .if1 .taken) (c5 .first-same .ensures .1))
+    ∙ ap (λ (x : List ℕ). splice (c9 .args .own .0 * c9 .args .n) (c9 .args .n) x (c9 .args .folds .now))
+    (same-fold (c9 .args .late) (c9 .args .n) (c9 .args .later .now) (c9 .args .sets .now) (c9 .args .own .0) (c9 .args .folds .now)
+    (c5 .first-same .result) (c9 .pre) (c .before .before .before .before .if1 .taken) (c5 .first-same .ensures .1))
 
 mul-at : tie.Need-mul-at
 mul-at c = let p = c .before .before .before .before .before .pre in omega (arith, row-le _ (p .below), p .room)
@@ -59,9 +61,7 @@ same-length-2 : tie.Need-same-length-2
 same-length-2 c = search needs
 
 returns-2 : tie.Need-returns-2
-returns-2 c =
-    let c10 = c .before .before .before .before .before .before .before .before .before .before in
-    ap (λ (x : List ℕ). putRow (c10 .args .n) (c10 .args .folds .now) (c10 .args .own .0) x) (c .before .before .fold-row .ensures)
+returns-2 c = written-part _ _ _ (c .before .before .fold-row .ensures)
 
 pub write-fold-spec : {M : Type 1} → statement M
 write-fold-spec =

@@ -40,14 +40,22 @@ loop-less c = search needs
 
 loop-again : tie.Need-loop-again Inv-loop μ-loop
 loop-again c =
-    let c6 = c .before .before .before .before .before .before in
-    (search needs, (c .before .before .add-column .kept .0 ∙ c6 .loop .inv .1 .0, simp (c .before .before .add-column .ensures, c6 .loop .inv .1 .1, through-next)))
+    let c6 = c .before .before .before .before .before .before in (
+      search needs,
+      (
+        c .before .before .add-column .kept .0 ∙ c6 .loop .inv .1 .0,
+        simp
+            (c .before .before .add-column .ensures, c6 .loop .inv .1 .1, through-next),
+      ),
+    )
 
 same-length : tie.Need-same-length Inv-loop μ-loop
 same-length c = search needs
 
 returns : tie.Need-returns Inv-loop μ-loop
-returns c = let e : c .before .loop .w ≡ c .before .before .before .before .before .before .before .before .before .args .n = omega arith in rw e at (c .before .loop .inv .1 .1)
+returns c =
+    let c9 = c .before .before .before .before .before .before .before .before .before in
+    let e : c .before .loop .w ≡ c9 .args .n = omega arith in rw e at (c .before .loop .inv .1 .1)
 
 pub add-columns-spec : {M : Type 1} → statement M
 add-columns-spec =

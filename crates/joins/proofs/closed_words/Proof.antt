@@ -1,6 +1,10 @@
 -- `joins::closed_words` meets its contract: the n words of the copy are closed, and the zeros behind them stay.
 -- Assumes nothing.
-use Rattle.joins.proofs.Padded.{close-padded}
+use mathlib.Core.Path.{_∙_, ap, sym}
+use Prim.Native.Nat.{zero-le}
+use Rattle.lists.specs.Tab.{splice}
+use Rattle.lists.proofs.Splice.{splice-again, written-first, lent-first}
+use Rattle.links.specs.Tables.{within}
 use borrow.Author.Needs.{needs}
 use Rattle.joins.proofs.closed_words.Statement.{statement}
 use Rattle.joins.proofs.closed_words.Tie as tie
@@ -21,7 +25,12 @@ close-requires : tie.Need-close-requires
 close-requires c κs = search needs
 
 returns : tie.Need-returns
-returns c = close-padded _ _ _ _ (c .before .before .before .before .before .pre .1) (c .before .before .before .load .ensures) (c .before .close .ensures)
+returns c =
+    let start = c .before .before .before .before .before in
+    let n = start .args .n in
+    let size = sym (start .pre .1) in
+    let t = c .before .before .before .load .ensures in
+    written-first n _ (c .before .close .ensures ∙ ap (within n 31) (lent-first _ size t)) ∙ ap (splice 0 n _) t ∙ splice-again 0 n _ _ size zero-le _
 
 pub closed-words-spec : {M : Type 1} → statement M
 closed-words-spec =

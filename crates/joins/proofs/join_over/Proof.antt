@@ -1,10 +1,10 @@
--- `joins::join_over` meets its contract: by columns from a copy of the words (`load-words`), or by tables.
+-- `joins::join_over` meets its contract: by columns from a copy of the words (`lent-first`), or by tables.
 -- Assumes nothing.
-use mathlib.Core.Path.{_∙_, ap}
+use mathlib.Core.Path.{_∙_, ap, sym}
 use mathlib.Core.List.{List}
 use Prim.Native.Nat.{ℕ}
+use Rattle.lists.proofs.Splice.{lent-first}
 use Rattle.links.specs.Tables.{compose}
-use Rattle.joins.proofs.Padded.{load-words}
 use borrow.Author.Needs.{needs}
 use Rattle.joins.proofs.join_over.Statement.{statement}
 use Rattle.joins.proofs.join_over.Tie as tie
@@ -35,7 +35,7 @@ returns c =
     let c6 = c .before .before .before .before .before .before in
     let start = c6 .before .before .before .before .before .before in
     c .before .before .join-columns .ensures
-    ∙ ap (λ (x : List ℕ). compose (start .args .n) x (start .args .right .now)) (load-words _ _ _ (start .pre .1 .0) (c6 .load .ensures))
+    ∙ ap (λ (x : List ℕ). compose (start .args .n) x (start .args .right .now)) (lent-first _ (sym (start .pre .1 .0)) (c6 .load .ensures))
 
 join-tables-requires : tie.Need-join-tables-requires
 join-tables-requires c κs = search needs

@@ -40,8 +40,14 @@ loop-again : tie.Need-loop-again Inv-loop μ-loop
 loop-again c =
     let c2 = c .before .before in
     let c5 = c2 .before .before .before in
-    let i = c5 .loop .inv .1 in
-    (search needs, (c2 .pass-if .kept .0 ∙ i .0, (simp (c2 .pass-if .ensures, i .1 .0, passes-next), rw (c2 .pass-if .ensures) (into-pass _ (c2 .before .before .loop-test .taken) (i .1 .1)))))
+    let i = c5 .loop .inv .1 in (
+      search needs,
+      (
+        c2 .pass-if .kept .0
+            ∙ i .0,
+        (simp (c2 .pass-if .ensures, i .1 .0, passes-next), rw (c2 .pass-if .ensures) (into-pass _ (c2 .before .before .loop-test .taken) (i .1 .1))),
+      ),
+    )
 
 same-length : tie.Need-same-length Inv-loop μ-loop
 same-length c = search needs

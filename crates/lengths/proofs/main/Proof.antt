@@ -1,4 +1,4 @@
--- `lengths::main` is safe and ends: the report is no longer than its buffer.
+-- `lengths::main` is safe and ends: the text is no longer than its buffer.
 -- Assumes nothing.
 use mathlib.Core.Path.{sym}
 use lib.Seq.{length-take-le}
@@ -15,20 +15,20 @@ read-full-requires c κs = search needs
 array-share-prefix-input : tie.Need-array-share-prefix-input
 array-share-prefix-input c = search needs
 
-slice-aggregate-report : tie.Need-slice-aggregate-report
-slice-aggregate-report c = search needs
+slice-aggregate-put-lengths : tie.Need-slice-aggregate-put-lengths
+slice-aggregate-put-lengths c = search needs
 
-slice-aggregate-report-2 : tie.Need-slice-aggregate-report-2
-slice-aggregate-report-2 c = search needs
+slice-aggregate-put-lengths-2 : tie.Need-slice-aggregate-put-lengths-2
+slice-aggregate-put-lengths-2 c = search needs
 
-report-requires : tie.Need-report-requires
-report-requires c κs = search needs
+put-lengths-requires : tie.Need-put-lengths-requires
+put-lengths-requires c κs = search needs
 
 array-share-prefix-out : tie.Need-array-share-prefix-out
 array-share-prefix-out c = search needs
 
 slice-aggregate-write-all : tie.Need-slice-aggregate-write-all
-slice-aggregate-write-all c = sym (length-take-le _ _ (c .before .before .report .ensures .0))
+slice-aggregate-write-all c = sym (length-take-le _ _ (c .before .before .put-lengths .ensures .0))
 
 write-all-requires : tie.Need-write-all-requires
 write-all-requires c κs = search needs
@@ -43,9 +43,9 @@ main-spec =
     slice-aggregate-read-full
     read-full-requires
     array-share-prefix-input
-    slice-aggregate-report
-    slice-aggregate-report-2
-    report-requires
+    slice-aggregate-put-lengths
+    slice-aggregate-put-lengths-2
+    put-lengths-requires
     array-share-prefix-out
     slice-aggregate-write-all
     write-all-requires

@@ -47,7 +47,10 @@ loop-less c = search needs
 
 loop-again : tie.Need-loop-again Inv-loop μ-loop
 unfolding union eitherRow
-loop-again c = (search needs, gather-same _ _ _ (c .before .before .before .before .loop .bad) _ (c .before .before .before .before .loop .inv .1) (sym (getD-tab _ _ _ (c .before .before .before .loop-test .taken))))
+loop-again c =
+    let c3 = c .before .before .before in
+    let c4 = c3 .before in
+    (search needs, gather-same _ _ _ (c4 .loop .bad) _ (c4 .loop .inv .1) (sym (getD-tab _ _ _ (c3 .loop-test .taken))))
 
 returns : tie.Need-returns Inv-loop μ-loop
 unfolding same

@@ -42,7 +42,9 @@ loop-less c = search needs
 
 loop-again : tie.Need-loop-again Inv-loop μ-loop
 unfolding eitherRow
-loop-again c = made-turn (c .before .before .before .loop .inv) (c .before .before .loop-test .taken) (simp (made-read (c .before .before .before .loop .inv) (c .before .before .loop-test .taken)))
+loop-again c =
+    let c3 = c .before .before .before in
+    made-turn (c3 .loop .inv) (c .before .before .loop-test .taken) (simp (made-read (c3 .loop .inv) (c .before .before .loop-test .taken)))
 
 same-length : tie.Need-same-length Inv-loop μ-loop
 same-length c = search needs

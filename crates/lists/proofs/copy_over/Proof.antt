@@ -2,13 +2,13 @@
 -- Assumes nothing.
 use Prim.Native.Nat.{_-_}
 use native.Mathlib.Omega.{arith}
-use Rattle.lists.proofs.Tab.{Copied, copied-start, copied-turn, copied-whole}
+use Rattle.lists.proofs.Splice.{Copied, copied-start, copied-turn, copied-whole}
 use borrow.Author.Needs.{needs}
 use Rattle.lists.proofs.copy_over.Statement.{statement}
 use Rattle.lists.proofs.copy_over.Tie as tie
 
 abbrev Inv-loop : tie.InvT-loop
-Inv-loop out₀ pick n u₀ out u = Copied pick out₀ out u
+Inv-loop out₀ pick n u₀ out u = Copied 0 pick out₀ out u
 
 abbrev μ-loop : tie.MeasureT-loop
 μ-loop out₀ pick n u₀ out u = n - u
@@ -35,7 +35,7 @@ loop-less : tie.Need-loop-less Inv-loop μ-loop
 loop-less c = search needs
 
 loop-again : tie.Need-loop-again Inv-loop μ-loop
-loop-again c = copied-turn (c .before .before .loop .inv) (omega arith)
+loop-again c = copied-turn (c .before .before .loop .inv) (omega arith) (omega arith)
 
 same-length : tie.Need-same-length Inv-loop μ-loop
 same-length c = omega arith

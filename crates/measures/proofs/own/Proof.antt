@@ -9,7 +9,9 @@ use Rattle.measures.proofs.own.Statement.{statement}
 use Rattle.measures.proofs.own.Tie as tie
 
 own-times-requires : tie.Need-own-times-requires
-own-times-requires c κs = let w = width-times _ (c .before .before .before .before .args .n) (c .before .if1 .taken) in (search needs, (search needs, (omega arith, search needs)))
+own-times-requires c κs =
+    let c4 = c .before .before .before .before in
+    let w = width-times _ (c4 .args .n) (c .before .if1 .taken) in (search needs, (search needs, (omega arith, search needs)))
 
 same-length : tie.Need-same-length
 same-length c = search needs
@@ -19,24 +21,34 @@ unfolding ownOf
 returns c = simp (eq-eqb _ _ (c .before .before .before .before .if1 .taken)) (c .before .before .own-times .ensures)
 
 close-over-requires : tie.Need-close-over-requires
-close-over-requires c κs = let w = width-links _ (c .before .before .before .before .before .args .n) (c .before .before .if1 .left) in (search needs, (omega arith, search needs))
+close-over-requires c κs =
+    let c5 = c .before .before .before .before .before in
+    let w = width-links _ (c5 .args .n) (c .before .before .if1 .left) in (search needs, (omega arith, search needs))
 
 same-length-2 : tie.Need-same-length-2
 same-length-2 c = search needs
 
 returns-2 : tie.Need-returns-2
 unfolding ownOf
-returns-2 c = simp (ne-eqb _ _ (c .before .before .before .before .before .if1 .left), eq-eqb _ _ (c .before .before .before .before .if2 .taken)) (c .before .before .close-over .ensures)
+returns-2 c =
+    let c4 = c .before .before .before .before in
+    let c5 = c4 .before in
+    simp (ne-eqb _ _ (c5 .if1 .left), eq-eqb _ _ (c4 .if2 .taken)) (c .before .before .close-over .ensures)
 
 copy-over-requires : tie.Need-copy-over-requires
-copy-over-requires c κs = let w = width-links _ (c .before .before .before .before .before .args .n) (c .before .before .if1 .left) in (omega arith, search needs)
+copy-over-requires c κs =
+    let c5 = c .before .before .before .before .before in
+    let w = width-links _ (c5 .args .n) (c .before .before .if1 .left) in (omega arith, search needs)
 
 same-length-3 : tie.Need-same-length-3
 same-length-3 c = search needs
 
 returns-3 : tie.Need-returns-3
 unfolding ownOf
-returns-3 c = simp (ne-eqb _ _ (c .before .before .before .before .before .if1 .left), ne-eqb _ _ (c .before .before .before .before .if2 .left)) (c .before .before .copy-over .ensures)
+returns-3 c =
+    let c4 = c .before .before .before .before in
+    let c5 = c4 .before in
+    simp (ne-eqb _ _ (c5 .if1 .left), ne-eqb _ _ (c4 .if2 .left)) (c .before .before .copy-over .ensures)
 
 pub own-spec : {M : Type 1} → statement M
 own-spec =

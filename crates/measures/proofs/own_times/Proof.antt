@@ -1,7 +1,8 @@
 -- `measures::own_times` meets its contract.
 -- Assumes nothing.
 use mathlib.Core.Path.{_∙_}
-use Rattle.joins.proofs.Padded.{within-padded}
+use Rattle.lists.proofs.Splice.{lent-first}
+use Rattle.links.proofs.Ways.{length-within}
 use borrow.Author.Needs.{needs}
 use Rattle.measures.proofs.own_times.Statement.{statement}
 use Rattle.measures.proofs.own_times.Tie as tie
@@ -25,7 +26,9 @@ same-length : tie.Need-same-length
 same-length c = search needs
 
 returns : tie.Need-returns
-returns c = c .before .before .own .ensures ∙ simp (within-padded _ _ _ (c .before .before .before .before .before .before .closed-words .ensures))
+returns c =
+    c .before .before .own .ensures
+    ∙ simp (lent-first _ (length-within _ 31 _) (c .before .before .before .before .before .before .closed-words .ensures))
 
 pub own-times-spec : {M : Type 1} → statement M
 own-times-spec =

@@ -23,18 +23,26 @@ unfolding passOf
 returns-2 c = simp (ne-eqb _ _ (c .before .before .if1 .left), eq-eqb _ _ (c .before .if2 .taken)) (c .is-full .ensures)
 
 is-same-requires : tie.Need-is-same-requires
-is-same-requires c κs = let w = width-links _ (c .before .before .before .before .before .args .n) (c .before .before .if1 .left) in (search needs, omega arith)
+is-same-requires c κs =
+    let c5 = c .before .before .before .before .before in
+    let w = width-links _ (c5 .args .n) (c .before .before .if1 .left) in (search needs, omega arith)
 
 returns-3 : tie.Need-returns-3
 unfolding passOf
-returns-3 c = simp (ne-eqb _ _ (c .before .before .before .if1 .left), ne-eqb _ _ (c .before .before .if2 .left), eq-eqb _ _ (c .before .if3 .taken)) (c .is-same .ensures)
+returns-3 c =
+    let c3 = c .before .before .before in
+    simp (ne-eqb _ _ (c3 .if1 .left), ne-eqb _ _ (c .before .before .if2 .left), eq-eqb _ _ (c .before .if3 .taken)) (c .is-same .ensures)
 
 is-connected-requires : tie.Need-is-connected-requires
-is-connected-requires c κs = let w = width-links _ (c .before .before .before .before .before .args .n) (c .before .before .if1 .left) in (search needs, omega arith)
+is-connected-requires c κs =
+    let c5 = c .before .before .before .before .before in
+    let w = width-links _ (c5 .args .n) (c .before .before .if1 .left) in (search needs, omega arith)
 
 returns-4 : tie.Need-returns-4
 unfolding passOf
-returns-4 c = simp (ne-eqb _ _ (c .before .before .before .if1 .left), ne-eqb _ _ (c .before .before .if2 .left), ne-eqb _ _ (c .before .if3 .left)) (c .is-connected .ensures)
+returns-4 c =
+    let c3 = c .before .before .before in
+    simp (ne-eqb _ _ (c3 .if1 .left), ne-eqb _ _ (c .before .before .if2 .left), ne-eqb _ _ (c .before .if3 .left)) (c .is-connected .ensures)
 
 pub passes-spec : {M : Type 1} → statement M
 passes-spec =

@@ -27,7 +27,14 @@ answer-words-requires c κs = subst NarrowAnswer (sym (c .length .ensures .0)) (
 
 returns-2 : tie.Need-returns-2
 unfolding lengthAnswers
-returns-2 c = c .answer-words .ensures ∙ ap answerWords (c .before .length .ensures .0 ∙ simp (c .before .before .place-of .ensures, sym (c .before .before .before .before .are-flags .ensures) ∙ not-false _ (c .before .before .before .if1 .left)))
+returns-2 c =
+    let c3 = c .before .before .before in
+    let c4 = c3 .before in
+    c .answer-words .ensures ∙ ap answerWords (c .before .length .ensures .0 ∙ simp (
+      c .before .before .place-of .ensures,
+      sym (c4 .are-flags .ensures)
+          ∙ not-false _ (c3 .if1 .left),
+    ))
 
 pub length-of-spec : {M : Type 1} → statement M
 length-of-spec =

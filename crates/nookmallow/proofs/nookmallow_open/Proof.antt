@@ -16,7 +16,9 @@ enum-known-p : tie.Need-enum-known-p
 enum-known-p c = search needs
 
 words-of-requires : tie.Need-words-of-requires
-words-of-requires c κs = subst Narrow (sym (ap (λ (h : Handed). h .place) (sym (ap openingSays (c .before .p .given .1)) ∙ c .before .before .before .before .before .«open» .ensures .0))) (open-narrow _ _ _ _ _)
+words-of-requires c κs =
+    let c5 = c .before .before .before .before .before in
+    subst Narrow (sym (ap (λ (h : Handed). h .place) (sym (ap openingSays (c .before .p .given .1)) ∙ c5 .«open» .ensures .0))) (open-narrow _ _ _ _ _)
 
 enum-known-p-2 : tie.Need-enum-known-p-2
 enum-known-p-2 c = search needs
@@ -25,19 +27,29 @@ cause-word-requires : tie.Need-cause-word-requires
 cause-word-requires c κs = search needs
 
 words-of-requires-2 : tie.Need-words-of-requires-2
-words-of-requires-2 c κs = subst Narrow (sym (ap (λ (h : Handed). h .place) (sym (ap openingSays (c .before .before .p2 .given .1)) ∙ c .before .before .before .before .before .before .«open» .ensures .0))) (open-narrow _ _ _ _ _)
+words-of-requires-2 c κs =
+    let c6 = c .before .before .before .before .before .before in
+    subst Narrow (sym (ap (λ (h : Handed). h .place) (sym (ap openingSays (c .before .before .p2 .given .1)) ∙ c6 .«open» .ensures .0)))
+    (open-narrow _ _ _ _ _)
 
 same-length : tie.Need-same-length
 same-length c = search needs
 
 returns : tie.Need-returns
-returns c = (handed-is refl (c .words-of .ensures) (sym (ap openingSays (c .before .before .p .given .1)) ∙ c .before .before .before .before .before .before .«open» .ensures .0), c .before .before .before .before .before .before .«open» .ensures .1)
+returns c =
+    let c6 = c .before .before .before .before .before .before in
+    (handed-is refl (c .words-of .ensures) (sym (ap openingSays (c .before .before .p .given .1)) ∙ c6 .«open» .ensures .0), c6 .«open» .ensures .1)
 
 same-length-2 : tie.Need-same-length-2
 same-length-2 c = search needs
 
 returns-2 : tie.Need-returns-2
-returns-2 c = (handed-is (c .before .cause-word .ensures) (c .words-of2 .ensures) (sym (ap openingSays (c .before .before .before .p2 .given .1)) ∙ c .before .before .before .before .before .before .before .«open» .ensures .0), c .before .before .before .before .before .before .before .«open» .ensures .1)
+returns-2 c =
+    let c3 = c .before .before .before in
+    let c7 = c3 .before .before .before .before in (
+      handed-is (c .before .cause-word .ensures) (c .words-of2 .ensures) (sym (ap openingSays (c3 .p2 .given .1)) ∙ c7 .«open» .ensures .0),
+      c7 .«open» .ensures .1,
+    )
 
 pub nookmallow-open-spec : {M : Type 1} → statement M
 nookmallow-open-spec =

@@ -14,7 +14,10 @@ are-flags-requires : tie.Need-are-flags-requires
 are-flags-requires c κs = search needs
 
 returns : tie.Need-returns
-returns c = (flag-refused _ _ _ (sym (c .before .are-flags .ensures) ∙ not-true _ (c .if1 .taken)), flag-kept _ _ _ (sym (c .before .are-flags .ensures) ∙ not-true _ (c .if1 .taken)))
+returns c = (
+  flag-refused _ _ _ (sym (c .before .are-flags .ensures) ∙ not-true _ (c .if1 .taken)),
+  flag-kept _ _ _ (sym (c .before .are-flags .ensures) ∙ not-true _ (c .if1 .taken)),
+)
 
 place-of-requires : tie.Need-place-of-requires
 place-of-requires c κs = search needs
@@ -26,7 +29,10 @@ enum-known-q : tie.Need-enum-known-q
 enum-known-q c = search needs
 
 words-of-requires : tie.Need-words-of-requires
-words-of-requires c κs = let e = sym (ap takingSays (c .before .q .given .1)) ∙ c .before .before .before .before .before .pick .ensures .0 in subst Narrow (sym (ap (λ (h : Handed). h .place) e)) (pick-narrow _ _ _ (sym (ap (λ (h : Handed). h .refusal) e)))
+words-of-requires c κs =
+    let c5 = c .before .before .before .before .before in
+    let e = sym (ap takingSays (c .before .q .given .1)) ∙ c5 .pick .ensures .0 in subst Narrow (sym (ap (λ (h : Handed). h .place) e))
+    (pick-narrow _ _ _ (sym (ap (λ (h : Handed). h .refusal) e)))
 
 enum-known-c : tie.Need-enum-known-c
 enum-known-c c = search needs
@@ -44,8 +50,10 @@ returns-2 c =
     let f = sym (c6 .before .before .before .before .are-flags .ensures) ∙ not-false _ (c6 .before .before .before .if1 .left) in
     let e = c6 .before .before .place-of .ensures in
     let a = c13 .args .area .now in
-    let w = c13 .args .words .now in
-    (picked-is _ a w f e (handed-is refl (c .words-of .ensures) (sym (ap takingSays (c .before .before .q .given .1)) ∙ c6 .pick .ensures .0)), kept-is _ a w f e (c6 .pick .ensures .1))
+    let w = c13 .args .words .now in (
+      picked-is _ a w f e (handed-is refl (c .words-of .ensures) (sym (ap takingSays (c .before .before .q .given .1)) ∙ c6 .pick .ensures .0)),
+      kept-is _ a w f e (c6 .pick .ensures .1),
+    )
 
 same-length-2 : tie.Need-same-length-2
 same-length-2 c = search needs

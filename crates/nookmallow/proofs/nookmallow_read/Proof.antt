@@ -17,10 +17,14 @@ enum-known-boards : tie.Need-enum-known-boards
 enum-known-boards c = search needs
 
 narrow-requires : tie.Need-narrow-requires
-narrow-requires c κs = let g = read-law _ _ _ _ _ (sym (sym (ap readingSays (c .before .boards .given .1)) ∙ c .before .before .before .before .before .read .ensures .0)) in let h = g .high in small (omega arith)
+narrow-requires c κs =
+    let c5 = c .before .before .before .before .before in
+    let g = read-law _ _ _ _ _ (sym (sym (ap readingSays (c .before .boards .given .1)) ∙ c5 .read .ensures .0)) in let h = g .high in small (omega arith)
 
 narrow-requires-2 : tie.Need-narrow-requires-2
-narrow-requires-2 c κs = let g = read-law _ _ _ _ _ (sym (sym (ap readingSays (c .before .before .boards .given .1)) ∙ c .before .before .before .before .before .before .read .ensures .0)) in let h = g .few in search needs
+narrow-requires-2 c κs =
+    let c6 = c .before .before .before .before .before .before in
+    let g = read-law _ _ _ _ _ (sym (sym (ap readingSays (c .before .before .boards .given .1)) ∙ c6 .read .ensures .0)) in let h = g .few in search needs
 
 enum-known-c : tie.Need-enum-known-c
 enum-known-c c = search needs
@@ -32,13 +36,20 @@ same-length : tie.Need-same-length
 same-length c = search needs
 
 returns : tie.Need-returns
-returns c = (simp (c .before .narrow .ensures, c .narrow2 .ensures) (ap readingWords (sym (ap readingSays (c .before .before .before .boards .given .1)) ∙ c .before .before .before .before .before .before .before .read .ensures .0)), c .before .before .before .before .before .before .before .read .ensures .1)
+returns c =
+    let c3 = c .before .before .before in
+    let c7 = c3 .before .before .before .before in (
+      simp (c .before .narrow .ensures, c .narrow2 .ensures) (ap readingWords (sym (ap readingSays (c3 .boards .given .1)) ∙ c7 .read .ensures .0)),
+      c7 .read .ensures .1,
+    )
 
 same-length-2 : tie.Need-same-length-2
 same-length-2 c = search needs
 
 returns-2 : tie.Need-returns-2
-returns-2 c = (simp (c .cause-word .ensures) (ap readingWords (sym (ap readingSays (c .before .before .c .given .1)) ∙ c .before .before .before .before .before .before .read .ensures .0)), c .before .before .before .before .before .before .read .ensures .1)
+returns-2 c =
+    let c6 = c .before .before .before .before .before .before in
+    (simp (c .cause-word .ensures) (ap readingWords (sym (ap readingSays (c .before .before .c .given .1)) ∙ c6 .read .ensures .0)), c6 .read .ensures .1)
 
 pub nookmallow-read-spec : {M : Type 1} → statement M
 nookmallow-read-spec =

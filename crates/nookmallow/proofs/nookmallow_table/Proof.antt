@@ -22,13 +22,17 @@ same-length : tie.Need-same-length
 same-length c = search needs
 
 returns : tie.Need-returns
-returns c = (sym (ap tableSays (c .enum-told .given .1)) ∙ c .before .before .before .before .table .ensures .0, c .before .before .before .before .table .ensures .1)
+returns c =
+    let c4 = c .before .before .before .before in
+    (sym (ap tableSays (c .enum-told .given .1)) ∙ c4 .table .ensures .0, c4 .table .ensures .1)
 
 same-length-2 : tie.Need-same-length-2
 same-length-2 c = search needs
 
 returns-2 : tie.Need-returns-2
-returns-2 c = (c .cause-word .ensures ∙ sym (ap tableSays (c .before .before .c .given .1)) ∙ c .before .before .before .before .before .before .table .ensures .0, c .before .before .before .before .before .before .table .ensures .1)
+returns-2 c =
+    let c6 = c .before .before .before .before .before .before in
+    (c .cause-word .ensures ∙ sym (ap tableSays (c .before .before .c .given .1)) ∙ c6 .table .ensures .0, c6 .table .ensures .1)
 
 pub nookmallow-table-spec : {M : Type 1} → statement M
 nookmallow-table-spec =

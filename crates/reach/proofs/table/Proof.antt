@@ -18,7 +18,8 @@ enum-told : tie.Need-enum-told
 enum-told c = search needs
 
 div-m : tie.Need-div-m
-div-m c = let t = table-sound _ _ _ (sym (c .before .before .table-verdict .ensures) ∙ ap verdictSays (c .enum-told .given .1)) in let b = t .some-boards in omega arith
+div-m c = let t = table-sound _ _ _ (sym (c .before .before .table-verdict .ensures)
+    ∙ ap verdictSays (c .enum-told .given .1)) in let b = t .some-boards in omega arith
 
 sub-write-table : tie.Need-sub-write-table
 sub-write-table c = search needs
@@ -27,7 +28,8 @@ part-write-table-start : tie.Need-part-write-table-start
 part-write-table-start c = search needs
 
 part-write-table-end : tie.Need-part-write-table-end
-part-write-table-end c = let t = table-sound _ _ _ (sym (c .before .before .table-verdict .ensures) ∙ ap verdictSays (c .enum-told .given .1)) in let b = t .room in omega arith
+part-write-table-end c = let t = table-sound _ _ _ (sym (c .before .before .table-verdict .ensures)
+    ∙ ap verdictSays (c .enum-told .given .1)) in let b = t .room in omega arith
 
 write-table-requires : tie.Need-write-table-requires
 write-table-requires c κs =
@@ -45,7 +47,9 @@ same-length c = search needs
 returns : tie.Need-returns
 unfolding tableLeaves tableOf
 returns c =
-    let e = sym (c .before .before .before .before .before .before .table-verdict .ensures) ∙ ap verdictSays (c .before .before .before .before .enum-told .given .1) in
+    let c4 = c .before .before .before .before in
+    let c6 = c4 .before .before in
+    let e = sym (c6 .table-verdict .ensures) ∙ ap verdictSays (c4 .enum-told .given .1) in
     (sym e, simp (e, c .before .before .write-table .ensures, sub-zero))
 
 same-length-2 : tie.Need-same-length-2
@@ -53,7 +57,9 @@ same-length-2 c = search needs
 
 returns-2 : tie.Need-returns-2
 unfolding tableLeaves
-returns-2 c = let e = sym (c .before .before .before .table-verdict .ensures) ∙ ap verdictSays (c .before .c .given .1) in (sym e, simp (e, number-some (c .before .c .given .0 .0)))
+returns-2 c =
+    let c3 = c .before .before .before in
+    let e = sym (c3 .table-verdict .ensures) ∙ ap verdictSays (c .before .c .given .1) in (sym e, simp (e, number-some (c .before .c .given .0 .0)))
 
 pub table-spec : {M : Type 1} → statement M
 table-spec =

@@ -1,12 +1,11 @@
--- `reach::table_verdict` meets its contract: the causes in their order.
--- Assumes nothing.
-use lib.ListN.{length}
-use native.Mathlib.Nat.{div-add-mod'}
-use mathlib.Core.Path.{refl}
-use native.Mathlib.Omega.{arith}
-use borrow.Author.Tests.{eq-eqb, ne-eqb, lt-ltb, le-ltb}
-use Rattle.verdicts.proofs.Verdicts.{stop-step, stop-here, between-says, passed-by, failed-by, holds-by}
+-- `reach::table_verdict` meets its contract. Assumes nothing.
 use Rattle.reach.specs.Tables.{tableVerdict}
+use Rattle.verdicts.proofs.Verdicts.{between-says, passed-by, failed-by, holds-by, lent-sound}
+use Rattle.verdicts.specs.Verdicts.{verdictSays, lentCauses}
+use Rattle.model.proofs.Refusals.{number-range}
+use Rattle.model.proofs.Causes.{cause-next, cause-here, none-holds, causes-before, causes-after}
+use native.Mathlib.Omega.{arith}
+use mathlib.Core.Path.{sym, ap, _∙_}
 use borrow.Author.Needs.{needs}
 use Rattle.reach.proofs.table_verdict.Statement.{statement}
 use Rattle.reach.proofs.table_verdict.Tie as tie
@@ -16,57 +15,54 @@ is-between-requires c κs = search needs
 
 returns : tie.Need-returns
 unfolding tableVerdict
-returns c = stop-here _ (failed-by (c .before .is-between .ensures) (c .if1 .taken))
+returns c = cause-here _ (failed-by (c .before .is-between .ensures) (c .if1 .taken))
 
-rem-if2 : tie.Need-rem-if2
-rem-if2 c = let b = between-says _ _ _ (holds-by (c .before .is-between .ensures) (c .if1 .left)) in let b0 = b .0 in omega arith
+lent-verdict-requires : tie.Need-lent-verdict-requires
+lent-verdict-requires c κs = let b = between-says _ _ _ (holds-by (c .before .is-between .ensures) (c .if1 .left)) .0 in omega arith
+
+enum-told : tie.Need-enum-told
+enum-told c = search needs
+
+div-out-verdict : tie.Need-div-out-verdict
+div-out-verdict c =
+    let c3 = c .before .before .before in
+    let c4 = c3 .before in
+    let b = between-says _ _ _ (holds-by (c4 .is-between .ensures) (c3 .if1 .left)) .0 in omega arith
+
+out-verdict-requires : tie.Need-out-verdict-requires
+out-verdict-requires c κs =
+    let c3 = c .before .before .before in
+    let c4 = c3 .before in
+    let c7 = c4 .before .before .before in
+    let n = c7 .args .n in
+    let w = c7 .args .words .now in
+    let l = lent-sound n w (none-holds (lentCauses n w) tt .0 (sym (c .before .before .lent-verdict .ensures) ∙ ap verdictSays (c .enum-told .given .1))) in
+    (between-says _ _ _ (holds-by (c4 .is-between .ensures) (c3 .if1 .left)) .1, l .2, omega (arith, l .0))
+
+enum-known-c : tie.Need-enum-known-c
+enum-known-c c = search needs
 
 returns-2 : tie.Need-returns-2
 unfolding tableVerdict
-returns-2 c = stop-step _ (passed-by (c .before .before .is-between .ensures) (c .before .if1 .left)) (stop-here _ (simp (ne-eqb _ _ (c .if2 .taken))))
-
-div-m : tie.Need-div-m
-div-m c = let b = between-says _ _ _ (holds-by (c .before .before .is-between .ensures) (c .before .if1 .left)) in let b0 = b .0 in omega arith
+returns-2 c =
+    let c3 = c .before .before .before in
+    let c4 = c3 .before in
+    let c5 = c4 .before in
+    let c8 = c5 .before .before .before in
+    cause-next _ _ (passed-by (c5 .is-between .ensures) (c4 .if1 .left))
+    (causes-after (lentCauses (c8 .args .n) (c8 .args .words .now)) _ tt (sym (c3 .lent-verdict .ensures) ∙ ap verdictSays (c .before .enum-told .given .1))
+    (c .out-verdict .ensures))
 
 returns-3 : tie.Need-returns-3
 unfolding tableVerdict
-returns-3 c = stop-step _ (passed-by (c .before .before .before .is-between .ensures) (c .before .before .if1 .left)) (stop-step _ (simp (eq-eqb _ _ (c .before .if2 .left))) (stop-here _ (eq-eqb _ _ (c .if3 .taken))))
-
-returns-4 : tie.Need-returns-4
-unfolding tableVerdict
-returns-4 c =
-    stop-step _ (passed-by (c .before .before .before .before .is-between .ensures) (c .before .before .before .if1 .left)) (stop-step _ (simp (eq-eqb _ _
-    (c .before .before .if2 .left))) (stop-step _ (ne-eqb _ _ (c .before .if3 .left)) (stop-here _ (lt-ltb _ _ (c .if4 .taken)))))
-
-returns-5 : tie.Need-returns-5
-unfolding tableVerdict
-returns-5 c =
-    stop-step _ (passed-by (c .before .before .before .before .before .is-between .ensures) (c .before .before .before .before .if1 .left)) (stop-step _ (simp (eq-eqb _ _
-    (c .before .before .before .if2 .left))) (stop-step _ (ne-eqb _ _ (c .before .before .if3 .left)) (stop-step _ (le-ltb _ _ (c .before .if4 .left)) (stop-here _
-    (lt-ltb _ _ (c .if5 .taken))))))
-
-are-clean-requires : tie.Need-are-clean-requires
-are-clean-requires c κs =
-    let c8 = c .before .before .before .before .before .before .before .before in (
-      between-says _ _ _ (holds-by (c .before .before .before .before .before .is-between .ensures) (c .before .before .before .before .if1 .left)) .1,
-      (c .before .if4 .left, omega (arith, div-add-mod' (length (c8 .args .words .now)) (c8 .args .n))),
-    )
-
-returns-6 : tie.Need-returns-6
-unfolding tableVerdict
-returns-6 c =
-    stop-step _ (passed-by (c .before .before .before .before .before .before .before .is-between .ensures)
-    (c .before .before .before .before .before .before .if1 .left)) (stop-step _ (simp (eq-eqb _ _ (c .before .before .before .before .before .if2 .left))) (stop-step _
-    (ne-eqb _ _ (c .before .before .before .before .if3 .left)) (stop-step _ (le-ltb _ _ (c .before .before .before .if4 .left)) (stop-step _ (le-ltb _ _
-    (c .before .before .if5 .left)) (stop-here _ (failed-by (c .before .are-clean .ensures) (c .if6 .taken)))))))
-
-returns-7 : tie.Need-returns-7
-unfolding tableVerdict
-returns-7 c =
-    stop-step _ (passed-by (c .before .before .before .before .before .before .before .is-between .ensures)
-    (c .before .before .before .before .before .before .if1 .left)) (stop-step _ (simp (eq-eqb _ _ (c .before .before .before .before .before .if2 .left))) (stop-step _
-    (ne-eqb _ _ (c .before .before .before .before .if3 .left)) (stop-step _ (le-ltb _ _ (c .before .before .before .if4 .left)) (stop-step _ (le-ltb _ _
-    (c .before .before .if5 .left)) (stop-step _ (passed-by (c .before .are-clean .ensures) (c .if6 .left)) refl)))))
+returns-3 c =
+    let c3 = c .before .before .before in
+    let c4 = c3 .before in
+    let c5 = c4 .before in
+    let c8 = c5 .before .before .before in
+    cause-next _ _ (passed-by (c5 .is-between .ensures) (c4 .if1 .left))
+    (causes-before (lentCauses (c8 .args .n) (c8 .args .words .now)) _ (number-range (c .before .c .given .0 .0) .0)
+    (sym (ap verdictSays (c .before .c .given .1)) ∙ c3 .lent-verdict .ensures))
 
 pub table-verdict-spec : {M : Type 1} → statement M
 table-verdict-spec =
@@ -74,12 +70,10 @@ table-verdict-spec =
     (tie.spec
     is-between-requires
     returns
-    rem-if2
+    lent-verdict-requires
+    enum-told
+    div-out-verdict
+    out-verdict-requires
+    enum-known-c
     returns-2
-    div-m
-    returns-3
-    returns-4
-    returns-5
-    are-clean-requires
-    returns-6
-    returns-7)
+    returns-3)

@@ -27,7 +27,9 @@ part-close-over-start : tie.Need-part-close-over-start Inv-loop μ-loop
 part-close-over-start c = search needs
 
 part-close-over-end : tie.Need-part-close-over-end Inv-loop μ-loop
-part-close-over-end c = omega (arith, lent-end (c .before .before .before .args .n) {k = 0} {m = c .before .before .before .args .m} (c .before .before .before .pre .1 .1 .0))
+part-close-over-end c =
+    let c3 = c .before .before .before in
+    omega (arith, lent-end (c3 .args .n) {k = 0} {m = c3 .args .m} (c3 .pre .1 .1 .0))
 
 close-over-requires : tie.Need-close-over-requires Inv-loop μ-loop
 close-over-requires c κs = search needs
@@ -50,10 +52,14 @@ mul-at : tie.Need-mul-at Inv-loop μ-loop
 mul-at c = omega (arith, lent-end (c .before .before .before .before .before .before .before .before .before .args .n) (c .loop-test .taken))
 
 add-add-pick : tie.Need-add-add-pick Inv-loop μ-loop
-add-add-pick c = omega (arith, lent-end (c .before .before .before .before .before .before .before .before .before .before .args .n) (c .before .loop-test .taken))
+add-add-pick c =
+    let c10 = c .before .before .before .before .before .before .before .before .before .before in
+    omega (arith, lent-end (c10 .args .n) (c .before .loop-test .taken))
 
 mul-add-pick : tie.Need-mul-add-pick Inv-loop μ-loop
-mul-add-pick c = omega (arith, lent-end (c .before .before .before .before .before .before .before .before .before .before .args .n) (c .before .loop-test .taken))
+mul-add-pick c =
+    let c10 = c .before .before .before .before .before .before .before .before .before .before in
+    omega (arith, lent-end (c10 .args .n) (c .before .loop-test .taken))
 
 sub-add-pick : tie.Need-sub-add-pick Inv-loop μ-loop
 sub-add-pick c = search needs
@@ -62,7 +68,9 @@ part-add-pick-start : tie.Need-part-add-pick-start Inv-loop μ-loop
 part-add-pick-start c = search needs
 
 part-add-pick-end : tie.Need-part-add-pick-end Inv-loop μ-loop
-part-add-pick-end c = omega (arith, lent-end (c .before .before .before .before .before .before .before .before .before .before .args .n) (c .before .loop-test .taken))
+part-add-pick-end c =
+    let c10 = c .before .before .before .before .before .before .before .before .before .before in
+    omega (arith, lent-end (c10 .args .n) (c .before .loop-test .taken))
 
 add-pick-requires : tie.Need-add-pick-requires Inv-loop μ-loop
 add-pick-requires c κs = search needs
@@ -83,7 +91,8 @@ loop-again c =
         (
           c .before .before .add-pick .kept .0 ∙ c6 .loop .inv .1 .1 .0,
           reach-turn
-              (c14 .args .n) (c6 .loop .k) (c14 .args .words .now) (c6 .loop .out) (c .before .before .add-pick .last .0) _ (c6 .loop .inv .0) (c6 .loop .inv .1 .1 .1) (lent-part
+              (c14 .args .n) (c6 .loop .k) (c14 .args .words .now) (c6 .loop .out) (c .before .before .add-pick .last .0) _ (c6 .loop .inv .0)
+              (c6 .loop .inv .1 .1 .1) (lent-part
               (c14 .args .n) (c6 .loop .k) (c14 .args .words .now)) (c .before .before .add-pick .ensures),
         ),
       ),
@@ -93,7 +102,9 @@ same-length : tie.Need-same-length Inv-loop μ-loop
 same-length c = search needs
 
 returns : tie.Need-returns Inv-loop μ-loop
-returns c = let e : c .before .loop .k ≡ c .before .before .before .before .before .before .before .before .before .args .m = omega arith in rw e at (c .before .loop .inv .1 .1 .1)
+returns c =
+    let c9 = c .before .before .before .before .before .before .before .before .before in
+    let e : c .before .loop .k ≡ c9 .args .m = omega arith in rw e at (c .before .loop .inv .1 .1 .1)
 
 pub write-table-spec : {M : Type 1} → statement M
 write-table-spec =

@@ -1,7 +1,9 @@
--- `recording::read` meets its contract. `answered` turns what `examine` answered into what `write` requires.
+-- `recording::read` meets its contract: going over the file first leaves the output as it was, and `answered` reads off its answer what writing requires.
 -- Assumes nothing.
+use mathlib.Core.Path.{_∙_}
+use mathlib.Core.Bool.{false≢true}
 use borrow.Author.Tests.{lt-ltb, le-ltb}
-use mathlib.Core.Path.{sym, _∙_}
+use Rattle.model.specs.Causes.{firstOr}
 use Rattle.recording.specs.Format.{readFile}
 use Rattle.recording.specs.Answers.{readSays, readLeaves}
 use Rattle.recording.proofs.Sound.{answered, answered-not}
@@ -9,50 +11,61 @@ use borrow.Author.Needs.{needs}
 use Rattle.recording.proofs.read.Statement.{statement}
 use Rattle.recording.proofs.read.Tie as tie
 
-examine-requires : tie.Need-examine-requires
-examine-requires c κs = search needs
+go-over-requires : tie.Need-go-over-requires
+go-over-requires c κs = λ t. absurd (false≢true t)
 
 enum-known-boards : tie.Need-enum-known-boards
 enum-known-boards c = search needs
 
-returns : tie.Need-returns
-unfolding readFile readSays readLeaves
-returns c = let x = answered _ _ _ _ _ _ _ (sym (c .before .before .before .before .examine .ensures) ∙ c .before .before .boards .given .1) in
-    (simp (x .read, lt-ltb _ _ (c .if1 .taken)), simp (x .read, lt-ltb _ _ (c .if1 .taken)))
+same-length : tie.Need-same-length
+same-length c = search needs
 
-write-requires : tie.Need-write-requires
-write-requires c κs = let b = c .before .before .before in
-    let x = answered _ _ _ _ _ _ _ (sym (b .before .before .examine .ensures) ∙ b .boards .given .1) in
-    let h = x .found .head in
-    (h .there, h .high, h .few, h .room-for, rw (x .found .whole))
+returns : tie.Need-returns
+unfolding firstOr readFile readSays readLeaves
+returns c = let p = c .before .before .before .before .before .before .go-over .ensures in
+    let x = answered p (c .before .before .boards .given .1) in
+    (simp (x .read, lt-ltb _ _ (c .if1 .taken)), p .leaves ∙ simp (x .read, lt-ltb _ _ (c .if1 .taken)))
+
+go-over-requires-2 : tie.Need-go-over-requires-2
+go-over-requires-2 c κs = let b = c .before .before .before in
+    let p = b .before .before .before .before .go-over .ensures in
+    λ t. rw (p .leaves, answered p (b .boards .given .1) .read)
 
 enum-known-r : tie.Need-enum-known-r
 enum-known-r c = search needs
 
-same-length : tie.Need-same-length
-same-length c = search needs
+same-length-2 : tie.Need-same-length-2
+same-length-2 c = search needs
 
 returns-2 : tie.Need-returns-2
-unfolding readFile readSays readLeaves
-returns-2 c = let x = answered _ _ _ _ _ _ _ (sym (c .before .before .before .before .before .before .before .before .examine .ensures) ∙ c .before .before .before .before .before .before .boards .given .1) in (
-  simp (x .read, le-ltb _ _ (c .before .before .before .before .if1 .left), x .counted),
-  c .before .before .write .ensures ∙ simp (x .found .whole, x .read, le-ltb _ _ (c .before .before .before .before .if1 .left)),
-)
+unfolding firstOr readFile readSays readLeaves
+returns-2 c = let q = c .before .before in
+    let b = q .before .before .before .before in
+    let p = b .before .before .before .before .go-over .ensures in
+    let x = answered p (b .boards .given .1) in
+    let t = le-ltb _ _ (q .before .before .if1 .left) in
+    (simp (x .read, t, x .counted), q .go-over2 .ensures .leaves ∙ rw (p .leaves) (simp (x .read, t)))
+
+same-length-3 : tie.Need-same-length-3
+same-length-3 c = search needs
 
 returns-3 : tie.Need-returns-3
 unfolding readFile readSays readLeaves
-returns-3 c = let e = sym (c .before .before .before .examine .ensures) ∙ c .before .r .given .1 in
-    (simp (answered-not _ _ _ _ _ e), simp (answered-not _ _ _ _ _ e))
+returns-3 c = let p = c .before .before .before .before .before .go-over .ensures in
+    let e = answered-not p (c .before .r .given .1) in
+    (simp e, p .leaves ∙ simp e)
 
 pub read-spec : {M : Type 1} → statement M
 read-spec =
     tie.close
     (tie.spec
-    examine-requires
+    go-over-requires
     enum-known-boards
-    returns
-    write-requires
-    enum-known-r
     same-length
+    returns
+    go-over-requires-2
+    enum-known-r
+    same-length-2
     returns-2
+    same-length-3
     returns-3)

@@ -1,23 +1,23 @@
--- `recording::read_at` meets its contract. `answered` turns what `examine` answered into what `write` requires.
+-- `recording::read_at` meets its contract: going over the file first leaves the output as it was, and `answered` reads off its answer what writing requires.
 -- Assumes nothing.
 use mathlib.Core.Path.{sym, ap, _∙_}
-use Rattle.recording.proofs.Sound.{answered, answered-not}
+use mathlib.Core.Bool.{false≢true}
 use Rattle.recording.specs.Answers.{partSays, readAtSays, readAtLeaves}
+use Rattle.recording.proofs.Sound.{answered, answered-not}
 use borrow.Author.Needs.{needs}
 use Rattle.recording.proofs.read_at.Statement.{statement}
 use Rattle.recording.proofs.read_at.Tie as tie
 
-examine-requires : tie.Need-examine-requires
-examine-requires c κs = search needs
+go-over-requires : tie.Need-go-over-requires
+go-over-requires c κs = λ t. absurd (false≢true t)
 
-enum-known-boards : tie.Need-enum-known-boards
-enum-known-boards c = search needs
+enum-told : tie.Need-enum-told
+enum-told c = search needs
 
-write-requires : tie.Need-write-requires
-write-requires c κs = let b = c .before .before in
-    let x = answered _ _ _ _ _ _ _ (sym (b .before .before .examine .ensures) ∙ b .boards .given .1) in
-    let h = x .found .head in
-    (h .there, h .high, h .few, h .room-for, rw (x .found .whole))
+go-over-requires-2 : tie.Need-go-over-requires-2
+go-over-requires-2 c κs = let b = c .before in
+    let p = b .before .before .before .before .go-over .ensures in
+    λ t. rw (p .leaves, answered p (b .enum-told .given .1) .read)
 
 enum-known-r : tie.Need-enum-known-r
 enum-known-r c = search needs
@@ -27,23 +27,28 @@ same-length c = search needs
 
 returns : tie.Need-returns
 unfolding readAtSays readAtLeaves
-returns c = let e = sym (c .before .before .before .before .before .before .before .examine .ensures) ∙ c .before .before .before .before .before .boards .given .1 in
-    let x = answered _ _ _ _ _ _ _ e in
-    (ap partSays (sym e), c .before .before .write .ensures ∙ simp (x .found .whole, x .read))
+returns c = let q = c .before .before in
+    let p = q .before .before .before .before .before .before .go-over .ensures in
+    rw (sym (p .leaves)) (ap partSays (q .go-over2 .ensures .says), q .go-over2 .ensures .leaves)
+
+same-length-2 : tie.Need-same-length-2
+same-length-2 c = search needs
 
 returns-2 : tie.Need-returns-2
 unfolding readAtSays readAtLeaves
-returns-2 c = let e = sym (c .before .before .before .examine .ensures) ∙ c .before .r .given .1 in
-    (ap partSays (sym e), simp (answered-not _ _ _ _ _ e))
+returns-2 c = let p = c .before .before .before .before .before .go-over .ensures in
+    let e = answered-not p (c .before .r .given .1) in
+    (simp e, p .leaves ∙ simp e)
 
 pub read-at-spec : {M : Type 1} → statement M
 read-at-spec =
     tie.close
     (tie.spec
-    examine-requires
-    enum-known-boards
-    write-requires
+    go-over-requires
+    enum-told
+    go-over-requires-2
     enum-known-r
     same-length
     returns
+    same-length-2
     returns-2)

@@ -44,7 +44,8 @@ unfolding full
 returns c =
     let c2 = c .before .before in
     let h : c2 .before .loop .u < 32 = omega arith in
-    sym (every-stop _ _ _ (c2 .loop-test .taken) (row-full _ _ _ ∙ ne-eqb _ _ (simp (one-mul, mod-eq-of-lt (pow-lt {j = 32} h), c2 .before .before .low-bits .ensures) at (c .if1 .taken))))
+    sym (every-stop _ _ _ (c2 .loop-test .taken)
+    (row-full _ _ _ ∙ ne-eqb _ _ (simp (one-mul, mod-eq-of-lt (pow-lt {j = 32} h), c2 .before .before .low-bits .ensures) at (c .if1 .taken))))
 
 add-u : tie.Need-add-u Inv-loop μ-loop
 add-u c = search needs
@@ -55,8 +56,11 @@ loop-less c = search needs
 loop-again : tie.Need-loop-again Inv-loop μ-loop
 loop-again c =
     let c2 = c .before .before in
-    let h : c2 .before .loop .u < 32 = omega arith in
-    (search needs, every-next _ _ (c2 .before .loop .inv .1) (row-full _ _ _ ∙ eq-eqb _ _ (simp (one-mul, mod-eq-of-lt (pow-lt {j = 32} h), c2 .before .before .low-bits .ensures) at (c .if1 .left))))
+    let h : c2 .before .loop .u < 32 = omega arith in (
+      search needs,
+      every-next _ _ (c2 .before .loop .inv .1)
+          (row-full _ _ _ ∙ eq-eqb _ _ (simp (one-mul, mod-eq-of-lt (pow-lt {j = 32} h), c2 .before .before .low-bits .ensures) at (c .if1 .left))),
+    )
 
 returns-2 : tie.Need-returns-2 Inv-loop μ-loop
 unfolding full

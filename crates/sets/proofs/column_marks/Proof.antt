@@ -43,7 +43,8 @@ part-add-marks-end c = omega (arith, row-le _ (c .before .loop-test .taken))
 
 add-marks-requires : tie.Need-add-marks-requires Inv-loop μ-loop
 add-marks-requires c κs =
-    (search needs, (sym (c .before .before .before .loop .inv .1 .0), le-of-eq (part-length _ _ _ (omega (arith, row-le _ (c .before .before .loop-test .taken))))))
+    let c3 = c .before .before .before in
+    (search needs, (sym (c3 .loop .inv .1 .0), le-of-eq (part-length _ _ _ (omega (arith, row-le _ (c .before .before .loop-test .taken))))))
 
 add-w : tie.Need-add-w Inv-loop μ-loop
 add-w c = search needs

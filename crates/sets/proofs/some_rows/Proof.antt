@@ -62,7 +62,8 @@ loop-again c =
     let c6 = c4 .before .before in (
       search needs,
       rw (add-one (c4 .loop .w))
-          (ap₂ bitOr (c4 .loop .inv .1) (c .mark-of .ensures ∙ ap (λ (x : ℕ). markOf x (c4 .loop .w)) (c .before .any-of .ensures ∙ any-lent (c6 .args .n) (c4 .loop .w) (c6 .args .half .now)))),
+          (ap₂ bitOr (c4 .loop .inv .1) (c .mark-of .ensures ∙ ap (λ (x : ℕ). markOf x (c4 .loop .w))
+          (c .before .any-of .ensures ∙ any-lent (c6 .args .n) (c4 .loop .w) (c6 .args .half .now)))),
     )
 
 returns : tie.Need-returns Inv-loop μ-loop

@@ -48,7 +48,12 @@ unfolding ownRow
 loop-again c =
     let c2 = c .before .before in
     let h : c2 .loop .u < 32 = omega arith in
-    made-turn (c2 .loop .inv) (c .before .loop-test .taken) (simp (one-mul, mod-eq-of-lt (pow-lt {j = 32} h), made-read (c2 .loop .inv) (c .before .loop-test .taken)))
+    made-turn (c2 .loop .inv) (c .before .loop-test .taken) (simp (
+      one-mul,
+      mod-eq-of-lt (pow-lt {j = 32} h),
+      made-read (c2 .loop .inv)
+          (c .before .loop-test .taken),
+    ))
 
 same-length : tie.Need-same-length Inv-loop μ-loop
 same-length c = search needs

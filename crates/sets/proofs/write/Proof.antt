@@ -62,7 +62,8 @@ loop-again : tie.Need-loop-again Inv-loop μ-loop
 loop-again c =
     let c3 = c .before .before .before in
     let c6 = c3 .before .before .before in
-    made-turn (c3 .loop .inv) (c .before .before .loop-test .taken) (c .set-of .ensures ∙ set-lent (c6 .args .n) (c3 .loop .u) (c6 .args .some) (c6 .args .half .now))
+    made-turn (c3 .loop .inv) (c .before .before .loop-test .taken) (c .set-of .ensures
+    ∙ set-lent (c6 .args .n) (c3 .loop .u) (c6 .args .some) (c6 .args .half .now))
 
 same-length : tie.Need-same-length Inv-loop μ-loop
 same-length c = search needs

@@ -19,7 +19,10 @@ same-length : tie.Need-same-length
 same-length c = search needs
 
 returns : tie.Need-returns
-returns c = c .before .before .with-own .ensures ∙ columns-own _ _ (c .before .before .before .before .before .before .before .before .before .before .before .before .before .before .args .half .now) _ (c .before .before .before .before .before .before .column-marks .ensures)
+returns c =
+    let c6 = c .before .before .before .before .before .before in
+    let c14 = c6 .before .before .before .before .before .before .before .before in
+    c .before .before .with-own .ensures ∙ columns-own _ _ (c14 .args .half .now) _ (c6 .column-marks .ensures)
 
 pub write-columns-spec : {M : Type 1} → statement M
 write-columns-spec =

@@ -11,7 +11,8 @@ use Rattle.steps.proofs.build_left.Statement.{statement}
 use Rattle.steps.proofs.build_left.Tie as tie
 
 abbrev Inv-loop : tie.InvT-loop
-Inv-loop p area₀ right₀ s m i₀ area right i = (s ≤ i) × (i ≤ m) × (length area ≡ length area₀) × (length right ≡ length right₀) × (area ≡ ladder (kitOf p) area₀ m (m - i))
+Inv-loop p area₀ right₀ s m i₀ area right i = (s ≤ i) × (i ≤ m) × (length area ≡ length area₀) × (length right ≡ length right₀)
+    × (area ≡ ladder (kitOf (p .settings)) area₀ m (m - i))
 
 abbrev μ-loop : tie.MeasureT-loop
 μ-loop p area₀ right₀ s m i₀ area right i = i
@@ -39,9 +40,17 @@ loop-less c = search needs
 
 loop-again : tie.Need-loop-again Inv-loop μ-loop
 loop-again c =
-    let v = c .before .before .before .before .before .before .before .before .loop .inv in
-    let k = c .before .before .before .before .compose-at .kept in
-    (search needs, search needs, k .1 .0 ∙ v .2, k .1 .1 .0 ∙ v .3, ladder-turn _ _ _ (c .before .before .before .before .before .before .before .before .loop .i) (omega arith) (omega arith) (v .4) (c .before .before .before .before .compose-at .ensures))
+    let c4 = c .before .before .before .before in
+    let c8 = c4 .before .before .before .before in
+    let v = c8 .loop .inv in
+    let k = c4 .compose-at .kept in (
+      search needs,
+      search needs,
+      k .1 .0 ∙ v .2,
+      k .1 .1 .0 ∙ v .3,
+      ladder-turn _ _ _ (c8 .loop .i) (omega arith) (omega arith) (v .4)
+          (c4 .compose-at .ensures),
+    )
 
 same-length : tie.Need-same-length Inv-loop μ-loop
 same-length c = search needs

@@ -10,7 +10,8 @@ use Rattle.steps.proofs.climb.Statement.{statement}
 use Rattle.steps.proofs.climb.Tie as tie
 
 abbrev Inv-loop : tie.InvT-loop
-Inv-loop area₀ right₀ k₀ q₀ area right k q = Climb q₀ area₀ k₀ q area k × Lends q (length right) × (length right ≡ length right₀)
+Inv-loop area₀ right₀ k₀ q₀ area right k q = Climb q₀ area₀ k₀ q area k × Lends (q .settings) (length right)
+    × (length right ≡ length right₀)
 
 abbrev μ-loop : tie.MeasureT-loop
 μ-loop area₀ right₀ k₀ q₀ area right k q = k
@@ -19,7 +20,7 @@ sub-k : tie.Need-sub-k Inv-loop μ-loop
 sub-k c = search needs
 
 loop-holds : tie.Need-loop-holds Inv-loop μ-loop
-loop-holds c = let h = c .before .before .before .before .before .before .pre in (climb-start _ _ (h .0) (h .2) (h .3), h .1, refl)
+loop-holds c = let h = c .before .before .before .before .before .before .pre in (climb-start _ _ (h .0), h .1, refl)
 
 same-length : tie.Need-same-length Inv-loop μ-loop
 same-length c = search needs
@@ -34,7 +35,7 @@ again-requires : tie.Need-again-requires Inv-loop μ-loop
 again-requires c κs =
     let v = c .before .before .before .before .loop .inv in
     let t = climb-takes (v .0) (c .before .before .before .loop-test .taken) in
-    (t .0, v .1, t .1 .0, t .1 .1 .0, t .1 .1 .1)
+    (t .0, v .1, t .1)
 
 sub-k-2 : tie.Need-sub-k-2 Inv-loop μ-loop
 sub-k-2 c = search needs
@@ -44,11 +45,15 @@ loop-less c = search needs
 
 loop-again : tie.Need-loop-again Inv-loop μ-loop
 loop-again c =
-    let v = c .before .before .before .before .before .before .before .before .before .loop .inv in
-    let e = c .before .before .before .before .again .ensures in
-    let k = c .before .before .before .before .again .kept in (
-      climb-turn (v .0) (c .before .before .before .before .before .before .before .before .loop-test .taken) (c .before .before .before .before .before .before .before .if1 .left) e (k .1 .0),
-      again-lends _ _ (climb-takes (v .0) (c .before .before .before .before .before .before .before .before .loop-test .taken) .0) e (k .1 .1 .0) (v .1),
+    let c4 = c .before .before .before .before in
+    let c7 = c4 .before .before .before in
+    let c8 = c7 .before in
+    let c9 = c8 .before in
+    let v = c9 .loop .inv in
+    let e = c4 .again .ensures in
+    let k = c4 .again .kept in (
+      climb-turn (v .0) (c8 .loop-test .taken) (c7 .if1 .left) e (k .1 .0),
+      again-lends _ _ (climb-takes (v .0) (c8 .loop-test .taken) .0 .top) e (k .1 .1 .0) (v .1),
       k .1 .1 .0 ∙ v .2,
     )
 

@@ -24,8 +24,8 @@ compose-own-requires c κs =
     let ft = f .top in (
       f .able .few,
       s .pre .1,
-      able-has (f .able) (in-part (s .args .p .limit + 1) (omega arith) (omega arith)),
-      able-has (f .able) (in-part (s .args .p .taken .0) (omega arith) (omega arith)),
+      able-has (f .able) (in-part (s .args .p .settings .limit + 1) (omega arith) (omega arith)),
+      able-has (f .able) (in-part (s .args .p .window .taken .0) (omega arith) (omega arith)),
       s .pre .2 .shape,
       s .pre .2 .own,
     )
@@ -41,7 +41,10 @@ same-length-2 c = search needs
 
 returns : tie.Need-returns
 unfolding joined joinedArea
-returns c = simp (lt-ltb _ _ (c .before .before .before .before .before .before .before .before .if1 .taken)) (c .charged .ensures, c .before .before .before .before .before .compose-own .ensures)
+returns c =
+    let c5 = c .before .before .before .before .before in
+    let c8 = c5 .before .before .before in
+    simp (lt-ltb _ _ (c8 .if1 .taken)) (c .charged .ensures, c5 .compose-own .ensures)
 
 add-copy-at : tie.Need-add-copy-at
 add-copy-at c = search needs

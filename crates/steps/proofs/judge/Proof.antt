@@ -21,8 +21,8 @@ passes-part-requires c κs =
     let h = c .before .pre .able in (
       h .few,
       (
-        able-has h (in-part (c .before .args .p .limit + 3) (omega arith) (omega arith)),
-        able-has h (in-part (c .before .args .p .limit + 2) (omega arith)
+        able-has h (in-part (c .before .args .p .settings .limit + 3) (omega arith) (omega arith)),
+        able-has h (in-part (c .before .args .p .settings .limit + 2) (omega arith)
             (omega arith)),
       ),
     )

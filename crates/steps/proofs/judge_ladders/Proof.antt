@@ -10,11 +10,11 @@ use borrow.Author.Needs.{needs}
 use Rattle.steps.proofs.judge_ladders.Statement.{statement}
 use Rattle.steps.proofs.judge_ladders.Tie as tie
 
+add-at : tie.Need-add-at
+add-at c = search needs
+
 add-passes-part : tie.Need-add-passes-part
 add-passes-part c = search needs
-
-add-passes-part-2 : tie.Need-add-passes-part-2
-add-passes-part-2 c = search needs
 
 passes-part-requires : tie.Need-passes-part-requires
 passes-part-requires c κs = search needs
@@ -26,10 +26,13 @@ same-length : tie.Need-same-length
 same-length c = search needs
 
 returns : tie.Need-returns
-returns c = on-right _ _ (c .before .before .before .before .before .before .before .before .before .before .before .pre .0) (c .before .before .before .if1 .taken) (c .before .passes-part .ensures) (c .tested .ensures)
+returns c =
+    let c3 = c .before .before .before in
+    let c11 = c3 .before .before .before .before .before .before .before .before in
+    on-right _ _ (c11 .pre .0) (c3 .if1 .taken) (c .before .passes-part .ensures) (c .tested .ensures)
 
-add-passes-part-3 : tie.Need-add-passes-part-3
-add-passes-part-3 c = search needs
+add-passes-part-2 : tie.Need-add-passes-part-2
+add-passes-part-2 c = search needs
 
 passes-part-requires-2 : tie.Need-passes-part-requires-2
 passes-part-requires-2 c κs =
@@ -39,8 +42,8 @@ passes-part-requires-2 c κs =
     let ft = f .top in (
       f .able .few,
       (
-        able-has (f .able) (in-part (s .args .p .limit + 3) (omega arith) (omega arith)),
-        able-has (f .able) (in-part (s .args .p .start .0) (f .start) (omega arith)),
+        able-has (f .able) (in-part (s .args .p .settings .limit + 3) (omega arith) (omega arith)),
+        able-has (f .able) (in-part (s .args .p .window .start .0) (f .start) (omega arith)),
       ),
     )
 
@@ -51,7 +54,11 @@ same-length-2 : tie.Need-same-length-2
 same-length-2 c = search needs
 
 returns-2 : tie.Need-returns-2
-returns-2 c = on-left _ _ (c .before .before .before .before .before .before .before .before .before .before .before .before .before .before .pre .0) (c .before .before .before .before .before .before .if1 .left) (c .before .before .before .if2 .taken) (c .before .passes-part2 .ensures) (c .tested2 .ensures)
+returns-2 c =
+    let c3 = c .before .before .before in
+    let c6 = c3 .before .before .before in
+    let c14 = c6 .before .before .before .before .before .before .before .before in
+    on-left _ _ (c14 .pre .0) (c6 .if1 .left) (c3 .if2 .taken) (c .before .passes-part2 .ensures) (c .tested2 .ensures)
 
 try-window-requires : tie.Need-try-window-requires
 try-window-requires c κs = search needs
@@ -63,7 +70,12 @@ same-length-4 : tie.Need-same-length-4
 same-length-4 c = search needs
 
 returns-3 : tie.Need-returns-3
-returns-3 c = on-both-composed _ _ (c .before .before .before .before .before .before .before .before .before .before .before .before .if1 .left) (c .before .before .before .before .before .before .before .before .before .if2 .left) (c .before .before .before .before .before .before .before .if3 .taken) (c .before .before .before .before .try-window .ensures)
+returns-3 c =
+    let c4 = c .before .before .before .before in
+    let c7 = c4 .before .before .before in
+    let c9 = c7 .before .before in
+    let c12 = c9 .before .before .before in
+    on-both-composed _ _ (c12 .if1 .left) (c9 .if2 .left) (c7 .if3 .taken) (c4 .try-window .ensures)
 
 add-joined-passes : tie.Need-add-joined-passes
 add-joined-passes c = search needs
@@ -80,10 +92,10 @@ joined-passes-requires c κs =
     let n = c .before .if3 .left in (
       f .able .few,
       n,
-      spared-footprint (s .args .p) (s .pre .4) n,
-      links-has (f .able) n (in-part (s .args .p .limit + 3) (omega arith) (omega arith)),
-      links-has (f .able) n (in-part (s .args .p .start .0) (f .start) (omega arith)),
-      links-has (f .able) n (in-part (s .args .p .limit + 1) (omega arith) (omega arith)),
+      spared-footprint (s .args .p) (s .pre .2) n,
+      links-has (f .able) n (in-part (s .args .p .settings .limit + 3) (omega arith) (omega arith)),
+      links-has (f .able) n (in-part (s .args .p .window .start .0) (f .start) (omega arith)),
+      links-has (f .able) n (in-part (s .args .p .settings .limit + 1) (omega arith) (omega arith)),
     )
 
 charged-requires : tie.Need-charged-requires
@@ -91,25 +103,33 @@ charged-requires c κs = search needs
 
 tested-requires-3 : tie.Need-tested-requires-3
 unfolding charged
-tested-requires-3 c κs = rw (c .charged .ensures) (c .before .before .before .before .before .before .before .before .before .before .before .before .before .before .before .before .pre .0 .tests)
+tested-requires-3 c κs =
+    let c16 = c .before .before .before .before .before .before .before .before .before .before .before .before .before .before .before .before in
+    rw (c .charged .ensures) (omega (arith, c16 .pre .0 .tests))
 
 same-length-5 : tie.Need-same-length-5
 same-length-5 c = search needs
 
 returns-4 : tie.Need-returns-4
-returns-4 c = on-both _ _ (c .before .before .before .before .before .before .before .before .before .before .before .before .before .before .before .before .before .pre .0) (c .before .before .before .before .before .before .before .before .before .if1 .left) (c .before .before .before .before .before .before .if2 .left) (c .before .before .before .before .if3 .left) (c .before .before .joined-passes .ensures ∙ joined-pass (c .before .before .before .before .before .before .before .before .before .before .before .before .before .before .before .before .before .args .p) _ (c .before .before .before .before .if3 .left)) (c .before .charged .ensures) (c .tested3 .ensures)
+returns-4 c =
+    let c4 = c .before .before .before .before in
+    let c6 = c4 .before .before in
+    let c9 = c6 .before .before .before in
+    let c17 = c9 .before .before .before .before .before .before .before .before in
+    on-both _ _ (c17 .pre .0) (c9 .if1 .left) (c6 .if2 .left) (c4 .if3 .left)
+    (c .before .before .joined-passes .ensures ∙ joined-pass (c17 .args .p) _ (c4 .if3 .left)) (c .before .charged .ensures) (c .tested3 .ensures)
 
 pub judge-ladders-spec : {M : Type 1} → statement M
 judge-ladders-spec =
     tie.close
     (tie.spec
+    add-at
     add-passes-part
-    add-passes-part-2
     passes-part-requires
     tested-requires
     same-length
     returns
-    add-passes-part-3
+    add-passes-part-2
     passes-part-requires-2
     tested-requires-2
     same-length-2

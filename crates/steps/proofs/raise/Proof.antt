@@ -32,7 +32,11 @@ same-length-2 c = search needs
 
 returns : tie.Need-returns
 unfolding raised raisedBy startMoved
-returns c = simp (lt-ltb _ _ (c .before .before .before .before .before .before .before .if1 .taken)) (does-at rebuilt (c .before .before .before .before .before .before .before .before .before .before .start-moved .ensures) refl (c .before .before .before .before .rebuild .ensures))
+returns c =
+    let c4 = c .before .before .before .before in
+    let c7 = c4 .before .before .before in
+    let c10 = c7 .before .before .before in
+    simp (lt-ltb _ _ (c7 .if1 .taken)) (does-at rebuilt (c10 .start-moved .ensures) refl (c4 .rebuild .ensures))
 
 returns-2 : tie.Need-returns-2
 unfolding raised raisedBy startMoved

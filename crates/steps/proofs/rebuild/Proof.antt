@@ -2,7 +2,7 @@
 -- Assumes nothing.
 use mathlib.Core.Path.{_∙_}
 use native.Mathlib.Omega.{arith}
-use Rattle.place.specs.Places.{turned}
+use Rattle.place.specs.Places.{boundaryMoved}
 use Rattle.steps.specs.Walk.{rebuilt}
 use borrow.Author.Needs.{needs}
 use Rattle.steps.proofs.rebuild.Statement.{statement}
@@ -17,28 +17,38 @@ add-zero-at c = search needs
 zero-at-requires : tie.Need-zero-at-requires
 zero-at-requires c κs = search needs
 
-turned-requires : tie.Need-turned-requires
-turned-requires c κs = search needs
+boundary-moved-requires : tie.Need-boundary-moved-requires
+boundary-moved-requires c κs = search needs
 
 sub-charged : tie.Need-sub-charged
-sub-charged c = omega (arith, c .before .before .before .before .before .before .before .before .before .before .before .before .before .before .before .before .before .before .pre .0 .inside)
+sub-charged c =
+    let c18 = c .before .before .before .before .before .before .before .before .before .before .before .before .before .before .before .before .before .before in
+    omega (arith, c18 .pre .0 .inside)
 
 charged-requires : tie.Need-charged-requires
-unfolding turned
-charged-requires c κs = let f = c .before .before .before .before .before .before .before .before .before .before .before .before .before .before .before .before .before .before .pre .0 in (rw (c .before .before .turned .ensures) (f .comps), omega (arith, f .able .cap, f .top))
+unfolding boundaryMoved
+charged-requires c κs =
+    let c18 = c .before .before .before .before .before .before .before .before .before .before .before .before .before .before .before .before .before .before in
+    let f = c18 .pre .0 in (rw (c .before .before .boundary-moved .ensures) (omega (arith, f .comps)), omega (arith, f .able .cap, f .top))
 
 same-length : tie.Need-same-length
-same-length c = search needs
+same-length c =
+    let c6 = c .before .before .before .before .before .before in
+    let c12 = c6 .before .before .before .before .before .before in
+    c6 .zero-at .kept .1 .0 ∙ c12 .build-left .kept .1 .0
 
 same-length-2 : tie.Need-same-length-2
 same-length-2 c = search needs
 
 returns : tie.Need-returns
 unfolding rebuilt
-returns c = (
-  simp (c .charged .ensures, c .before .before .before .turned .ensures),
-  c .before .before .before .before .before .before .zero-at .ensures ∙ simp (c .before .before .before .before .before .before .before .before .before .before .before .before .build-left .ensures),
-)
+returns c =
+    let c3 = c .before .before .before in
+    let c6 = c3 .before .before .before in
+    let c12 = c6 .before .before .before .before .before .before in (
+      simp (c .charged .ensures, c3 .boundary-moved .ensures),
+      c6 .zero-at .ensures ∙ simp (c12 .build-left .ensures),
+    )
 
 pub rebuild-spec : {M : Type 1} → statement M
 rebuild-spec =
@@ -47,7 +57,7 @@ rebuild-spec =
     build-left-requires
     add-zero-at
     zero-at-requires
-    turned-requires
+    boundary-moved-requires
     sub-charged
     charged-requires
     same-length

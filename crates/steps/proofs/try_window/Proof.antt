@@ -14,9 +14,11 @@ window-requires c κs = search needs
 
 judge-requires : tie.Need-judge-requires
 judge-requires c κs =
-    let h = c .before .before .before .before .before .before .before .before .before .before .pre in
+    let c5 = c .before .before .before .before .before in
+    let c10 = c5 .before .before .before .before .before in
+    let h = c10 .pre in
     let i = h .0 .inside in
-    fit-at (c .before .before .before .before .before .window .ensures .0) (c .before .before .before .before .before .window .kept .1 .0) (fit-grown (windowed-grown _ _) (omega arith) (omega arith) (omega arith) (h .0))
+    fit-at (c5 .window .ensures .0) (c5 .window .kept .1 .0) (fit-grown (windowed-grown _ _) (omega arith) (omega arith) (omega arith) (h .0))
 
 same-length : tie.Need-same-length
 same-length c = search needs

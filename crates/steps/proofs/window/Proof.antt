@@ -34,7 +34,10 @@ same-length-2 c = search needs
 
 returns-2 : tie.Need-returns-2
 unfolding windowed windowArea
-returns-2 c = simp (le-leb _ _ (c .before .before .before .before .before .before .before .if1 .left), le-ltb _ _ (c .if2 .taken)) (charged-none _, c .before .before .before .before .before .copy-at2 .ensures)
+returns-2 c =
+    let c5 = c .before .before .before .before .before in
+    let c7 = c5 .before .before in
+    simp (le-leb _ _ (c7 .if1 .left), le-ltb _ _ (c .if2 .taken)) (charged-none _, c5 .copy-at2 .ensures)
 
 add-compose-at : tie.Need-add-compose-at
 add-compose-at c = search needs
@@ -57,8 +60,13 @@ same-length-4 c = search needs
 returns-3 : tie.Need-returns-3
 unfolding windowed windowArea
 returns-3 c =
-    simp (le-leb _ _ (c .before .before .before .before .before .before .before .before .before .before .before .before .before .before .before .if1 .left), lt-ltb _ _ (c .before .before .before .before .before .before .before .before .if2 .left))
-    (c .charged .ensures, window-copied _ _ (c .before .before .before .before .before .before .before .before .before .before .before .before .before .before .before .before .before .before .before .before .before .before .before .pre .0) (c .before .before .before .before .before .before .before .before .before .before .before .before .before .copy-at2 .ensures) (c .before .before .before .before .before .compose-at .ensures))
+    let c5 = c .before .before .before .before .before in
+    let c8 = c5 .before .before .before in
+    let c13 = c8 .before .before .before .before .before in
+    let c15 = c13 .before .before in
+    let c23 = c15 .before .before .before .before .before .before .before .before in
+    simp (le-leb _ _ (c15 .if1 .left), lt-ltb _ _ (c8 .if2 .left))
+    (c .charged .ensures, window-copied _ _ (c23 .pre .0) (c13 .copy-at2 .ensures) (c5 .compose-at .ensures))
 
 pub window-spec : {M : Type 1} → statement M
 window-spec =

@@ -26,7 +26,8 @@ row-in-time-requires : tie.Need-row-in-time-requires Inv-loop μ-loop
 row-in-time-requires c κs = search needs
 
 returns : tie.Need-returns Inv-loop μ-loop
-returns c = sym (every-stop _ _ _ (c .before .before .loop-test .taken) (sym (c .before .row-in-time .ensures) ∙ not-true _ (c .if1 .taken))) ∙ below-all _ _
+returns c = sym (every-stop _ _ _ (c .before .before .loop-test .taken) (sym (c .before .row-in-time .ensures) ∙ not-true _ (c .if1 .taken)))
+    ∙ below-all _ _
 
 add-u : tie.Need-add-u Inv-loop μ-loop
 add-u c = search needs

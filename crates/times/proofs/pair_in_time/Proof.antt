@@ -50,7 +50,8 @@ no-later-requires c κs = search needs
 returns : tie.Need-returns
 returns c =
     let s = c .before .before .before .before .before in
-    pair-not (s .args .n) (s .args .t .now) (s .args .a .0) (s .args .b .0) (s .pre .1 .1 .0) (sym (c .before .no-later .ensures) ∙ not-true _ (c .if1 .taken))
+    pair-not (s .args .n) (s .args .t .now) (s .args .a .0) (s .args .b .0) (s .pre .1 .1 .0)
+    (sym (c .before .no-later .ensures) ∙ not-true _ (c .if1 .taken))
 
 mul-no-later-3 : tie.Need-mul-no-later-3
 mul-no-later-3 c = let p = pairs (c .before .before .before .before .before) in omega (arith, p .1)
@@ -72,8 +73,11 @@ no-later-requires-2 c κs = search needs
 
 returns-2 : tie.Need-returns-2
 returns-2 c =
-    let s = c .before .before .before .before .before .before .before .before in
-    c .no-later2 .ensures ∙ pair-last (s .args .n) (s .args .t .now) (s .args .a .0) (s .args .b .0) (s .pre .1 .1 .0) (sym (c .before .before .before .before .no-later .ensures) ∙ not-false _ (c .before .before .before .if1 .left))
+    let c3 = c .before .before .before in
+    let c4 = c3 .before in
+    let s = c4 .before .before .before .before in
+    c .no-later2 .ensures ∙ pair-last (s .args .n) (s .args .t .now) (s .args .a .0) (s .args .b .0) (s .pre .1 .1 .0)
+    (sym (c4 .no-later .ensures) ∙ not-false _ (c3 .if1 .left))
 
 pub pair-in-time-spec : {M : Type 1} → statement M
 pair-in-time-spec =

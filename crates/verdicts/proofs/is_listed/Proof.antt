@@ -36,7 +36,8 @@ is-listed-requires c κs = search needs
 returns : tie.Need-returns
 returns c =
     let c4 = c .before .before .before .before in
-    c .is-listed .ensures ∙ ap (λ (x : List ℕ). listed (c4 .args .n) x (c4 .args .words .now)) (third-lent (c4 .args .n) (c4 .args .limit) (c4 .args .area .now))
+    c .is-listed .ensures
+    ∙ ap (λ (x : List ℕ). listed (c4 .args .n) x (c4 .args .words .now)) (third-lent (c4 .args .n) (c4 .args .limit) (c4 .args .area .now))
 
 pub is-listed-spec : {M : Type 1} → statement M
 is-listed-spec =

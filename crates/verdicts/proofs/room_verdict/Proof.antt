@@ -1,7 +1,7 @@
 -- `verdicts::room_verdict` meets its contract.
 -- Assumes nothing.
-use mathlib.Core.Path.{refl, sym, _∙_}
-use Rattle.verdicts.proofs.Verdicts.{stop-step, stop-here}
+use mathlib.Core.Path.{sym, _∙_}
+use Rattle.model.proofs.Causes.{cause-none, cause-next, cause-here}
 use borrow.Author.Needs.{needs}
 use Rattle.verdicts.proofs.room_verdict.Statement.{statement}
 use Rattle.verdicts.proofs.room_verdict.Tie as tie
@@ -10,10 +10,10 @@ is-short-requires : tie.Need-is-short-requires
 is-short-requires c κs = search needs
 
 returns : tie.Need-returns
-returns c = stop-here _ (sym (c .before .is-short .ensures) ∙ c .if1 .taken)
+returns c = cause-here _ (sym (c .before .is-short .ensures) ∙ c .if1 .taken)
 
 returns-2 : tie.Need-returns-2
-returns-2 c = stop-step _ (sym (c .before .is-short .ensures) ∙ c .if1 .left) refl
+returns-2 c = cause-next _ _ (sym (c .before .is-short .ensures) ∙ c .if1 .left) cause-none
 
 pub room-verdict-spec : {M : Type 1} → statement M
 room-verdict-spec = tie.close (tie.spec is-short-requires returns returns-2)

@@ -2,8 +2,8 @@
 -- Assumes nothing.
 use mathlib.Core.Path.{refl}
 use borrow.Author.Tests.{le-leb, lt-leb}
+use Rattle.model.proofs.Logic.{and-step, and-stop}
 use Rattle.place.specs.Places.{soundCounts}
-use Rattle.place.proofs.Laws.{and-step, and-stop}
 use borrow.Author.Needs.{needs}
 use Rattle.place.proofs.Place.are_sound_counts.Statement.{statement}
 use Rattle.place.proofs.Place.are_sound_counts.Tie as tie

@@ -2,8 +2,8 @@
 -- Assumes nothing.
 use mathlib.Core.Path.{sym, _∙_}
 use borrow.Author.Tests.{not-true, not-false}
+use Rattle.model.proofs.Logic.{and-step, and-stop}
 use Rattle.place.specs.Places.{inRange}
-use Rattle.place.proofs.Laws.{and-step, and-stop}
 use borrow.Author.Needs.{needs}
 use Rattle.place.proofs.Place.is_in_range.Statement.{statement}
 use Rattle.place.proofs.Place.is_in_range.Tie as tie
@@ -20,7 +20,10 @@ is-between-requires-2 c κs = search needs
 
 returns-2 : tie.Need-returns-2
 unfolding inRange
-returns-2 c = and-step (sym (c .before .before .before .is-between .ensures) ∙ not-false _ (c .before .before .if1 .left)) (and-stop _ (sym (c .before .is-between2 .ensures) ∙ not-true _ (c .if2 .taken)))
+returns-2 c =
+    let c3 = c .before .before .before in
+    and-step (sym (c3 .is-between .ensures) ∙ not-false _ (c .before .before .if1 .left))
+    (and-stop _ (sym (c .before .is-between2 .ensures) ∙ not-true _ (c .if2 .taken)))
 
 is-between-requires-3 : tie.Need-is-between-requires-3
 is-between-requires-3 c κs = search needs

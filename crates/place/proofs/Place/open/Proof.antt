@@ -1,5 +1,4 @@
--- `place::Place::open` meets its contract: boards and limit are put into the fresh value of the measure.
--- Assumes nothing.
+-- `place::Place::open` meets its contract. Assumes nothing.
 use Rattle.place.specs.Places.{fresh}
 use borrow.Author.Needs.{needs}
 use Rattle.place.proofs.Place.open.Statement.{statement}
@@ -10,7 +9,7 @@ of-measure-requires c κs = search needs
 
 returns : tie.Need-returns
 unfolding fresh
-returns c = rw (c .of-measure .ensures)
+returns c = rw (c .before .of-measure .ensures)
 
 pub open-spec : {M : Type 1} → statement M
 open-spec = tie.close (tie.spec of-measure-requires returns)

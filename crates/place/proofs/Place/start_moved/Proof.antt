@@ -1,17 +1,16 @@
--- `place::Place::start_moved` meets its contract, by computing.
--- Assumes nothing.
-use mathlib.Core.Path.{refl}
+-- `place::Place::start_moved` meets its contract. Assumes nothing.
 use Rattle.place.specs.Places.{startMoved}
+use mathlib.Core.Path.{refl}
 use borrow.Author.Needs.{needs}
 use Rattle.place.proofs.Place.start_moved.Statement.{statement}
 use Rattle.place.proofs.Place.start_moved.Tie as tie
 
-add-t5 : tie.Need-add-t5
-add-t5 c = search needs
+add-t6 : tie.Need-add-t6
+add-t6 c = search needs
 
 returns : tie.Need-returns
 unfolding startMoved
 returns c = refl
 
 pub start-moved-spec : {M : Type 1} → statement M
-start-moved-spec = tie.close (tie.spec add-t5 returns)
+start-moved-spec = tie.close (tie.spec add-t6 returns)

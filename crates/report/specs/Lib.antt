@@ -1,2 +1,0 @@
--- What the report of a file holds.
-pub mod Report
