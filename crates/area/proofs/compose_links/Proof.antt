@@ -9,12 +9,6 @@ use borrow.Author.Needs.{needs}
 use Rattle.area.proofs.compose_links.Statement.{statement}
 use Rattle.area.proofs.compose_links.Tie as tie
 
-take-part-requires : tie.Need-take-part-requires
-take-part-requires c κs = search needs
-
-sub-at : tie.Need-sub-at
-sub-at c = search needs
-
 mul-at : tie.Need-mul-at
 mul-at c = omega (arith, fits (c .before .before .before .before .before .before .before .pre .2))
 
@@ -24,23 +18,8 @@ add-join-over c = omega (arith, fits (c .before .before .before .before .before 
 mul-join-over : tie.Need-mul-join-over
 mul-join-over c = omega (arith, fits (c .before .before .before .before .before .before .before .pre .2))
 
-sub-join-over : tie.Need-sub-join-over
-sub-join-over c = search needs
-
-part-join-over-start : tie.Need-part-join-over-start
-part-join-over-start c = search needs
-
 part-join-over-end : tie.Need-part-join-over-end
 part-join-over-end c = omega (arith, fits (c .before .before .before .before .before .before .before .pre .2))
-
-join-over-requires : tie.Need-join-over-requires
-join-over-requires c κs = search needs
-
-same-length : tie.Need-same-length
-same-length c = search needs
-
-same-length-2 : tie.Need-same-length-2
-same-length-2 c = search needs
 
 returns : tie.Need-returns
 unfolding splice part
@@ -50,15 +29,5 @@ pub compose-links-spec : {M : Type 1} → statement M
 compose-links-spec =
     tie.close
     (tie.spec
-    take-part-requires
-    sub-at
-    mul-at
-    add-join-over
-    mul-join-over
-    sub-join-over
-    part-join-over-start
-    part-join-over-end
-    join-over-requires
-    same-length
-    same-length-2
-    returns)
+    (search needs) (search needs) mul-at add-join-over mul-join-over (search needs) (search needs) part-join-over-end (search needs) (search needs)
+    (search needs) returns)

@@ -14,12 +14,6 @@ compose-times-requires c κs =
     let q = sym (width-times (c5 .args .measure) (c5 .args .n) (c .before .before .if1 .taken)) in
     (h .0, q ∙ h .1, has-at q (h .2), has-at q (h .3))
 
-same-length : tie.Need-same-length
-same-length c = search needs
-
-same-length-2 : tie.Need-same-length-2
-same-length-2 c = search needs
-
 returns : tie.Need-returns
 returns c =
     let c4 = c .before .before .before .before in
@@ -34,12 +28,6 @@ compose-links-requires c κs =
     let q = sym (width-links (c6 .args .measure) (c6 .args .n) (c3 .if1 .left)) in
     (h .0, q ∙ h .1, has-at q (h .2), has-at q (h .3))
 
-same-length-3 : tie.Need-same-length-3
-same-length-3 c = search needs
-
-same-length-4 : tie.Need-same-length-4
-same-length-4 c = search needs
-
 returns-2 : tie.Need-returns-2
 returns-2 c =
     let c4 = c .before .before .before .before in
@@ -53,9 +41,6 @@ compose-words-requires c κs =
     let q = sym (width-links (c5 .args .measure) (c5 .args .n) (c .before .before .if1 .left)) in
     (h .0, c .before .before .if1 .left, c .before .if2 .left, has-at q (h .2), has-at q (h .3))
 
-same-length-5 : tie.Need-same-length-5
-same-length-5 c = search needs
-
 returns-3 : tie.Need-returns-3
 returns-3 c = c .before .before .compose-words .ensures ∙ onto-links _ _ _ _ _ (c .before .before .before .before .before .if1 .left)
 
@@ -63,14 +48,5 @@ pub compose-onto-spec : {M : Type 1} → statement M
 compose-onto-spec =
     tie.close
     (tie.spec
-    compose-times-requires
-    same-length
-    same-length-2
-    returns
-    compose-links-requires
-    same-length-3
-    same-length-4
-    returns-2
-    compose-words-requires
-    same-length-5
-    returns-3)
+    compose-times-requires (search needs) (search needs) returns compose-links-requires (search needs) (search needs) returns-2 compose-words-requires
+    (search needs) returns-3)

@@ -9,21 +9,6 @@ use borrow.Author.Needs.{needs}
 use Rattle.area.proofs.compose_times.Statement.{statement}
 use Rattle.area.proofs.compose_times.Tie as tie
 
-mul-e : tie.Need-mul-e
-mul-e c = search needs
-
-mul-e-2 : tie.Need-mul-e-2
-mul-e-2 c = search needs
-
-add-e : tie.Need-add-e
-add-e c = search needs
-
-take-part-requires : tie.Need-take-part-requires
-take-part-requires c κs = search needs
-
-sub-at : tie.Need-sub-at
-sub-at c = search needs
-
 mul-at : tie.Need-mul-at
 mul-at c = omega (arith, fits (c .before .before .before .before .before .before .before .pre .2))
 
@@ -33,23 +18,8 @@ add-compose-over c = omega (arith, fits (c .before .before .before .before .befo
 mul-compose-over : tie.Need-mul-compose-over
 mul-compose-over c = omega (arith, fits (c .before .before .before .before .before .before .before .pre .2))
 
-sub-compose-over : tie.Need-sub-compose-over
-sub-compose-over c = search needs
-
-part-compose-over-start : tie.Need-part-compose-over-start
-part-compose-over-start c = search needs
-
 part-compose-over-end : tie.Need-part-compose-over-end
 part-compose-over-end c = omega (arith, fits (c .before .before .before .before .before .before .before .pre .2))
-
-compose-over-requires : tie.Need-compose-over-requires
-compose-over-requires c κs = search needs
-
-same-length : tie.Need-same-length
-same-length c = search needs
-
-same-length-2 : tie.Need-same-length-2
-same-length-2 c = search needs
 
 returns : tie.Need-returns
 unfolding splice part
@@ -59,18 +29,5 @@ pub compose-times-spec : {M : Type 1} → statement M
 compose-times-spec =
     tie.close
     (tie.spec
-    mul-e
-    mul-e-2
-    add-e
-    take-part-requires
-    sub-at
-    mul-at
-    add-compose-over
-    mul-compose-over
-    sub-compose-over
-    part-compose-over-start
-    part-compose-over-end
-    compose-over-requires
-    same-length
-    same-length-2
-    returns)
+    (search needs) (search needs) (search needs) (search needs) (search needs) mul-at add-compose-over mul-compose-over (search needs) (search needs)
+    part-compose-over-end (search needs) (search needs) (search needs) returns)

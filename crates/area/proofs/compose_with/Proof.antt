@@ -9,9 +9,6 @@ use borrow.Author.Needs.{needs}
 use Rattle.area.proofs.compose_with.Statement.{statement}
 use Rattle.area.proofs.compose_with.Tie as tie
 
-sub-at : tie.Need-sub-at
-sub-at c = search needs
-
 mul-at : tie.Need-mul-at
 mul-at c = omega (arith, fits (c .before .before .pre .3))
 
@@ -21,20 +18,8 @@ add-compose-words c = omega (arith, fits (c .before .before .pre .3))
 mul-compose-words : tie.Need-mul-compose-words
 mul-compose-words c = omega (arith, fits (c .before .before .pre .3))
 
-sub-compose-words : tie.Need-sub-compose-words
-sub-compose-words c = search needs
-
-part-compose-words-start : tie.Need-part-compose-words-start
-part-compose-words-start c = search needs
-
 part-compose-words-end : tie.Need-part-compose-words-end
 part-compose-words-end c = omega (arith, fits (c .before .before .pre .3))
-
-compose-words-requires : tie.Need-compose-words-requires
-compose-words-requires c κs = search needs
-
-same-length : tie.Need-same-length
-same-length c = search needs
 
 returns : tie.Need-returns
 unfolding splice part
@@ -44,13 +29,4 @@ pub compose-with-spec : {M : Type 1} → statement M
 compose-with-spec =
     tie.close
     (tie.spec
-    sub-at
-    mul-at
-    add-compose-words
-    mul-compose-words
-    sub-compose-words
-    part-compose-words-start
-    part-compose-words-end
-    compose-words-requires
-    same-length
-    returns)
+    (search needs) mul-at add-compose-words mul-compose-words (search needs) (search needs) part-compose-words-end (search needs) (search needs) returns)

@@ -7,17 +7,11 @@ use borrow.Author.Needs.{needs}
 use Rattle.area.proofs.copy_part.Statement.{statement}
 use Rattle.area.proofs.copy_part.Tie as tie
 
-width-requires : tie.Need-width-requires
-width-requires c κs = search needs
-
 copy-times-requires : tie.Need-copy-times-requires
 copy-times-requires c κs =
     let q = c .before .before .width .ensures in
     let h = c .before .before .before .before .pre in
     (omega (arith, width-most (c .before .before .before .before .args .measure) _ (h .0)), (has-at q (h .1 .0), has-at q (h .1 .1)))
-
-same-length : tie.Need-same-length
-same-length c = search needs
 
 returns : tie.Need-returns
 unfolding copyAt
@@ -29,21 +23,10 @@ copy-links-requires c κs =
     let h = c .before .before .before .before .pre in
     (omega (arith, links-most (c .before .before .before .before .args .measure) _ (h .0) (c .before .if1 .left)), (has-at q (h .1 .0), has-at q (h .1 .1)))
 
-same-length-2 : tie.Need-same-length-2
-same-length-2 c = search needs
-
 returns-2 : tie.Need-returns-2
 unfolding copyAt
 returns-2 c = simp (c .before .before .before .before .before .width .ensures) at (c .before .before .copy-links .ensures)
 
 pub copy-part-spec : {M : Type 1} → statement M
 copy-part-spec =
-    tie.close
-    (tie.spec
-    width-requires
-    copy-times-requires
-    same-length
-    returns
-    copy-links-requires
-    same-length-2
-    returns-2)
+    tie.close (tie.spec (search needs) copy-times-requires (search needs) returns copy-links-requires (search needs) returns-2)

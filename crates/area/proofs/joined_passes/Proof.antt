@@ -10,20 +10,11 @@ use borrow.Author.Needs.{needs}
 use Rattle.area.proofs.joined_passes.Statement.{statement}
 use Rattle.area.proofs.joined_passes.Tie as tie
 
-sub-from : tie.Need-sub-from
-sub-from c = search needs
-
 mul-from : tie.Need-mul-from
 mul-from c = omega (arith, fits (c .before .pre .3))
 
-sub-at : tie.Need-sub-at
-sub-at c = search needs
-
 mul-at : tie.Need-mul-at
 mul-at c = omega (arith, fits (c .before .pre .4))
-
-sub-to : tie.Need-sub-to
-sub-to c = search needs
 
 mul-to : tie.Need-mul-to
 mul-to c = omega (arith, fits (c .before .pre .5))
@@ -34,12 +25,6 @@ add-joins-full c = omega (arith, fits (c .before .before .pre .4))
 mul-joins-full : tie.Need-mul-joins-full
 mul-joins-full c = omega (arith, fits (c .before .before .pre .4))
 
-sub-joins-full : tie.Need-sub-joins-full
-sub-joins-full c = search needs
-
-part-joins-full-start : tie.Need-part-joins-full-start
-part-joins-full-start c = search needs
-
 part-joins-full-end : tie.Need-part-joins-full-end
 part-joins-full-end c = omega (arith, fits (c .before .before .pre .4))
 
@@ -49,17 +34,8 @@ add-joins-full-2 c = omega (arith, fits (c .before .before .before .pre .5))
 mul-joins-full-2 : tie.Need-mul-joins-full-2
 mul-joins-full-2 c = omega (arith, fits (c .before .before .before .pre .5))
 
-sub-joins-full-2 : tie.Need-sub-joins-full-2
-sub-joins-full-2 c = search needs
-
-part-joins-full-start-2 : tie.Need-part-joins-full-start-2
-part-joins-full-start-2 c = search needs
-
 part-joins-full-end-2 : tie.Need-part-joins-full-end-2
 part-joins-full-end-2 c = omega (arith, fits (c .before .before .before .pre .5))
-
-joins-full-requires : tie.Need-joins-full-requires
-joins-full-requires c κs = search needs
 
 returns : tie.Need-returns
 unfolding part
@@ -71,12 +47,6 @@ add-is-union c = omega (arith, fits (c .before .before .pre .3))
 mul-is-union : tie.Need-mul-is-union
 mul-is-union c = omega (arith, fits (c .before .before .pre .3))
 
-sub-is-union : tie.Need-sub-is-union
-sub-is-union c = search needs
-
-part-is-union-start : tie.Need-part-is-union-start
-part-is-union-start c = search needs
-
 part-is-union-end : tie.Need-part-is-union-end
 part-is-union-end c = omega (arith, fits (c .before .before .pre .3))
 
@@ -85,12 +55,6 @@ add-is-union-2 c = omega (arith, fits (c .before .before .before .pre .4))
 
 mul-is-union-2 : tie.Need-mul-is-union-2
 mul-is-union-2 c = omega (arith, fits (c .before .before .before .pre .4))
-
-sub-is-union-2 : tie.Need-sub-is-union-2
-sub-is-union-2 c = search needs
-
-part-is-union-start-2 : tie.Need-part-is-union-start-2
-part-is-union-start-2 c = search needs
 
 part-is-union-end-2 : tie.Need-part-is-union-end-2
 part-is-union-end-2 c = omega (arith, fits (c .before .before .before .pre .4))
@@ -101,17 +65,8 @@ add-is-union-3 c = omega (arith, fits (c .before .before .before .before .pre .5
 mul-is-union-3 : tie.Need-mul-is-union-3
 mul-is-union-3 c = omega (arith, fits (c .before .before .before .before .pre .5))
 
-sub-is-union-3 : tie.Need-sub-is-union-3
-sub-is-union-3 c = search needs
-
-part-is-union-start-3 : tie.Need-part-is-union-start-3
-part-is-union-start-3 c = search needs
-
 part-is-union-end-3 : tie.Need-part-is-union-end-3
 part-is-union-end-3 c = omega (arith, fits (c .before .before .before .before .pre .5))
-
-is-union-requires : tie.Need-is-union-requires
-is-union-requires c κs = search needs
 
 returns-2 : tie.Need-returns-2
 unfolding part
@@ -124,38 +79,7 @@ pub joined-passes-spec : {M : Type 1} → statement M
 joined-passes-spec =
     tie.close
     (tie.spec
-    sub-from
-    mul-from
-    sub-at
-    mul-at
-    sub-to
-    mul-to
-    add-joins-full
-    mul-joins-full
-    sub-joins-full
-    part-joins-full-start
-    part-joins-full-end
-    add-joins-full-2
-    mul-joins-full-2
-    sub-joins-full-2
-    part-joins-full-start-2
-    part-joins-full-end-2
-    joins-full-requires
-    returns
-    add-is-union
-    mul-is-union
-    sub-is-union
-    part-is-union-start
-    part-is-union-end
-    add-is-union-2
-    mul-is-union-2
-    sub-is-union-2
-    part-is-union-start-2
-    part-is-union-end-2
-    add-is-union-3
-    mul-is-union-3
-    sub-is-union-3
-    part-is-union-start-3
-    part-is-union-end-3
-    is-union-requires
-    returns-2)
+    (search needs) mul-from (search needs) mul-at (search needs) mul-to add-joins-full mul-joins-full (search needs) (search needs) part-joins-full-end
+    add-joins-full-2 mul-joins-full-2 (search needs) (search needs) part-joins-full-end-2 (search needs) returns add-is-union mul-is-union (search needs)
+    (search needs) part-is-union-end add-is-union-2 mul-is-union-2 (search needs) (search needs) part-is-union-end-2 add-is-union-3 mul-is-union-3
+    (search needs) (search needs) part-is-union-end-3 (search needs) returns-2)

@@ -8,17 +8,8 @@ use borrow.Author.Needs.{needs}
 use Rattle.area.proofs.passes_part.Statement.{statement}
 use Rattle.area.proofs.passes_part.Tie as tie
 
-width-requires : tie.Need-width-requires
-width-requires c κs = search needs
-
-sub-from : tie.Need-sub-from
-sub-from c = search needs
-
 mul-from : tie.Need-mul-from
 mul-from c = omega (arith, fits-at (c .width .ensures) (c .before .before .pre .1 .0))
-
-sub-at : tie.Need-sub-at
-sub-at c = search needs
 
 mul-at : tie.Need-mul-at
 mul-at c = omega (arith, fits-at (c .width .ensures) (c .before .before .pre .1 .1))
@@ -29,12 +20,6 @@ add-passes c = omega (arith, fits-at (c .width .ensures) (c .before .before .pre
 mul-passes : tie.Need-mul-passes
 mul-passes c = omega (arith, fits-at (c .width .ensures) (c .before .before .pre .1 .0))
 
-sub-passes : tie.Need-sub-passes
-sub-passes c = search needs
-
-part-passes-start : tie.Need-part-passes-start
-part-passes-start c = search needs
-
 part-passes-end : tie.Need-part-passes-end
 part-passes-end c = omega (arith, fits-at (c .width .ensures) (c .before .before .pre .1 .0))
 
@@ -43,12 +28,6 @@ add-passes-2 c = omega (arith, fits-at (c .before .width .ensures) (c .before .b
 
 mul-passes-2 : tie.Need-mul-passes-2
 mul-passes-2 c = omega (arith, fits-at (c .before .width .ensures) (c .before .before .before .pre .1 .1))
-
-sub-passes-2 : tie.Need-sub-passes-2
-sub-passes-2 c = search needs
-
-part-passes-start-2 : tie.Need-part-passes-start-2
-part-passes-start-2 c = search needs
 
 part-passes-end-2 : tie.Need-part-passes-end-2
 part-passes-end-2 c = omega (arith, fits-at (c .before .width .ensures) (c .before .before .before .pre .1 .1))
@@ -68,20 +47,5 @@ pub passes-part-spec : {M : Type 1} → statement M
 passes-part-spec =
     tie.close
     (tie.spec
-    width-requires
-    sub-from
-    mul-from
-    sub-at
-    mul-at
-    add-passes
-    mul-passes
-    sub-passes
-    part-passes-start
-    part-passes-end
-    add-passes-2
-    mul-passes-2
-    sub-passes-2
-    part-passes-start-2
-    part-passes-end-2
-    passes-requires
-    returns)
+    (search needs) (search needs) mul-from (search needs) mul-at add-passes mul-passes (search needs) (search needs) part-passes-end add-passes-2
+    mul-passes-2 (search needs) (search needs) part-passes-end-2 passes-requires returns)

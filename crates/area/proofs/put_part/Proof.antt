@@ -7,9 +7,6 @@ use borrow.Author.Needs.{needs}
 use Rattle.area.proofs.put_part.Statement.{statement}
 use Rattle.area.proofs.put_part.Tie as tie
 
-sub-at : tie.Need-sub-at
-sub-at c = search needs
-
 mul-at : tie.Need-mul-at
 mul-at c = omega (arith, fits (c .before .before .pre .1))
 
@@ -19,20 +16,8 @@ add-copy-over c = omega (arith, fits (c .before .before .pre .1))
 mul-copy-over : tie.Need-mul-copy-over
 mul-copy-over c = omega (arith, fits (c .before .before .pre .1))
 
-sub-copy-over : tie.Need-sub-copy-over
-sub-copy-over c = search needs
-
-part-copy-over-start : tie.Need-part-copy-over-start
-part-copy-over-start c = search needs
-
 part-copy-over-end : tie.Need-part-copy-over-end
 part-copy-over-end c = omega (arith, fits (c .before .before .pre .1))
-
-copy-over-requires : tie.Need-copy-over-requires
-copy-over-requires c κs = search needs
-
-same-length : tie.Need-same-length
-same-length c = search needs
 
 returns : tie.Need-returns
 returns c = written-part _ _ _ (c .before .before .copy-over .ensures)
@@ -41,13 +26,4 @@ pub put-part-spec : {M : Type 1} → statement M
 put-part-spec =
     tie.close
     (tie.spec
-    sub-at
-    mul-at
-    add-copy-over
-    mul-copy-over
-    sub-copy-over
-    part-copy-over-start
-    part-copy-over-end
-    copy-over-requires
-    same-length
-    returns)
+    (search needs) mul-at add-copy-over mul-copy-over (search needs) (search needs) part-copy-over-end (search needs) (search needs) returns)

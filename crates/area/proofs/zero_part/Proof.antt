@@ -9,12 +9,6 @@ use borrow.Author.Needs.{needs}
 use Rattle.area.proofs.zero_part.Statement.{statement}
 use Rattle.area.proofs.zero_part.Tie as tie
 
-width-requires : tie.Need-width-requires
-width-requires c κs = search needs
-
-sub-at : tie.Need-sub-at
-sub-at c = search needs
-
 mul-at : tie.Need-mul-at
 mul-at c = omega (arith, fits-at (c .width .ensures) (c .before .before .pre .1))
 
@@ -24,20 +18,8 @@ add-zero-over c = omega (arith, fits-at (c .width .ensures) (c .before .before .
 mul-zero-over : tie.Need-mul-zero-over
 mul-zero-over c = omega (arith, fits-at (c .width .ensures) (c .before .before .pre .1))
 
-sub-zero-over : tie.Need-sub-zero-over
-sub-zero-over c = search needs
-
-part-zero-over-start : tie.Need-part-zero-over-start
-part-zero-over-start c = search needs
-
 part-zero-over-end : tie.Need-part-zero-over-end
 part-zero-over-end c = omega (arith, fits-at (c .width .ensures) (c .before .before .pre .1))
-
-zero-over-requires : tie.Need-zero-over-requires
-zero-over-requires c κs = search needs
-
-same-length : tie.Need-same-length
-same-length c = search needs
 
 returns : tie.Need-returns
 unfolding splice zeroAt
@@ -47,14 +29,5 @@ pub zero-part-spec : {M : Type 1} → statement M
 zero-part-spec =
     tie.close
     (tie.spec
-    width-requires
-    sub-at
-    mul-at
-    add-zero-over
-    mul-zero-over
-    sub-zero-over
-    part-zero-over-start
-    part-zero-over-end
-    zero-over-requires
-    same-length
+    (search needs) (search needs) mul-at add-zero-over mul-zero-over (search needs) (search needs) part-zero-over-end (search needs) (search needs)
     returns)

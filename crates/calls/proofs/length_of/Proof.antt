@@ -10,9 +10,6 @@ use borrow.Author.Needs.{needs}
 use Rattle.calls.proofs.length_of.Statement.{statement}
 use Rattle.calls.proofs.length_of.Tie as tie
 
-is-sound-requires : tie.Need-is-sound-requires
-is-sound-requires c κs = search needs
-
 returns : tie.Need-returns
 unfolding lengthSays firstOf
 returns c = simp (sym (c .before .is-sound .ensures) ∙ not-true _ (c .if1 .taken))
@@ -37,4 +34,5 @@ returns-3 c =
     simp (sym (c4 .is-sound .ensures) ∙ not-false _ (c3 .if1 .left), ne-eqb _ _ (c .before .if2 .left)) (c .report .ensures)
 
 pub length-of-spec : {M : Type 1} → statement M
-length-of-spec = tie.close (tie.spec is-sound-requires returns returns-2 report-requires returns-3)
+length-of-spec =
+    tie.close (tie.spec (search needs) returns returns-2 report-requires returns-3)

@@ -10,12 +10,6 @@ use borrow.Author.Needs.{needs}
 use Rattle.calls.proofs.open.Statement.{statement}
 use Rattle.calls.proofs.open.Tie as tie
 
-open-verdict-requires : tie.Need-open-verdict-requires
-open-verdict-requires c κs = search needs
-
-enum-told : tie.Need-enum-told
-enum-told c = search needs
-
 open-area-requires : tie.Need-open-area-requires
 open-area-requires c κs =
     let c3 = c .before .before .before in
@@ -27,21 +21,12 @@ open-requires c κs =
     (c .before .before .before .before .enum-told .given .1)) in
     (o .measure-low, o .measure-high)
 
-enum-known-c : tie.Need-enum-known-c
-enum-known-c c = search needs
-
-same-length : tie.Need-same-length
-same-length c = search needs
-
 returns : tie.Need-returns
 unfolding openSays openLeaves
 returns c =
     let e = sym (c .before .before .before .before .before .before .before .open-verdict .ensures) ∙ ap verdictSays
     (c .before .before .before .before .before .enum-told .given .1) in
     simp e (cc (c .«open» .ensures), c .before .before .before .open-area .ensures)
-
-same-length-2 : tie.Need-same-length-2
-same-length-2 c = search needs
 
 returns-2 : tie.Need-returns-2
 unfolding openSays openLeaves nowhere
@@ -51,14 +36,4 @@ returns-2 c =
 
 pub open-spec : {M : Type 1} → statement M
 open-spec =
-    tie.close
-    (tie.spec
-    open-verdict-requires
-    enum-told
-    open-area-requires
-    open-requires
-    enum-known-c
-    same-length
-    returns
-    same-length-2
-    returns-2)
+    tie.close (tie.spec (search needs) (search needs) open-area-requires open-requires (search needs) (search needs) returns (search needs) returns-2)

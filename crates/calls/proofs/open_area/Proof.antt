@@ -10,18 +10,9 @@ use borrow.Author.Needs.{needs}
 use Rattle.calls.proofs.open_area.Statement.{statement}
 use Rattle.calls.proofs.open_area.Tie as tie
 
-zero-needed-requires : tie.Need-zero-needed-requires
-zero-needed-requires c κs = search needs
-
-same-length : tie.Need-same-length
-same-length c = search needs
-
 returns : tie.Need-returns
 unfolding openedArea
 returns c = simp (ne-eqb _ _ (c .if1 .taken), c .before .before .before .zero-needed .ensures)
-
-add-put-part : tie.Need-add-put-part
-add-put-part c = search needs
 
 put-part-requires : tie.Need-put-part-requires
 put-part-requires c κs =
@@ -32,9 +23,6 @@ put-part-requires c κs =
       third-fits (a .args .measure) (a .args .n) (a .args .limit) _ _ _ (sym (width-links (a .args .measure) (a .args .n) (λ x. omega arith)))
           (z .zero-needed .kept .1 .1 .1 .0) (a .pre .room),
     )
-
-same-length-2 : tie.Need-same-length-2
-same-length-2 c = search needs
 
 returns-2 : tie.Need-returns-2
 unfolding openedArea
@@ -47,12 +35,4 @@ returns-2 c =
 
 pub open-area-spec : {M : Type 1} → statement M
 open-area-spec =
-    tie.close
-    (tie.spec
-    zero-needed-requires
-    same-length
-    returns
-    add-put-part
-    put-part-requires
-    same-length-2
-    returns-2)
+    tie.close (tie.spec (search needs) (search needs) returns (search needs) put-part-requires (search needs) returns-2)

@@ -13,23 +13,11 @@ use borrow.Author.Needs.{needs}
 use Rattle.calls.proofs.pick.Statement.{statement}
 use Rattle.calls.proofs.pick.Tie as tie
 
-pick-verdict-requires : tie.Need-pick-verdict-requires
-pick-verdict-requires c κs = search needs
-
-enum-told : tie.Need-enum-told
-enum-told c = search needs
-
 take-pick-requires : tie.Need-take-pick-requires
 take-pick-requires c κs =
     let c3 = c .before .before .before in
     let t = pick-sound _ _ _ (sym (c3 .pick-verdict .ensures) ∙ ap verdictSays (c .before .enum-told .given .1)) in sound-takes (t .sound) (t .room)
     (t .below) (sym (t .shape))
-
-enum-known-c : tie.Need-enum-known-c
-enum-known-c c = search needs
-
-same-length : tie.Need-same-length
-same-length c = search needs
 
 returns : tie.Need-returns
 returns c =
@@ -38,9 +26,6 @@ returns c =
     ∙ ap verdictSays (c .before .before .before .before .enum-told .given .1) in
     let q = taken-state (c10 .args .p) (c10 .args .area .now) (c10 .args .words .now) e in
     (simp (e, c .before .before .take-pick .ensures .0, q), c .before .before .take-pick .ensures .1 ∙ sym (ap (λ (x : State). x .area) q))
-
-same-length-2 : tie.Need-same-length-2
-same-length-2 c = search needs
 
 returns-2 : tie.Need-returns-2
 returns-2 c =
@@ -52,13 +37,4 @@ returns-2 c =
 
 pub pick-spec : {M : Type 1} → statement M
 pick-spec =
-    tie.close
-    (tie.spec
-    pick-verdict-requires
-    enum-told
-    take-pick-requires
-    enum-known-c
-    same-length
-    returns
-    same-length-2
-    returns-2)
+    tie.close (tie.spec (search needs) (search needs) take-pick-requires (search needs) (search needs) returns (search needs) returns-2)

@@ -6,12 +6,6 @@ use borrow.Author.Needs.{needs}
 use Rattle.calls.proofs.report.Statement.{statement}
 use Rattle.calls.proofs.report.Tie as tie
 
-add-t7 : tie.Need-add-t7
-add-t7 c = search needs
-
-sub-t8 : tie.Need-sub-t8
-sub-t8 c = search needs
-
 returns : tie.Need-returns
 unfolding reported
 returns c = simp (c .if1 .taken)
@@ -19,12 +13,6 @@ returns c = simp (c .if1 .taken)
 returns-2 : tie.Need-returns-2
 unfolding reported
 returns-2 c = simp (c .before .before .if1 .left, eq-eqb _ _ (c .if2 .taken))
-
-add-t10 : tie.Need-add-t10
-add-t10 c = search needs
-
-sub-t11 : tie.Need-sub-t11
-sub-t11 c = search needs
 
 returns-3 : tie.Need-returns-3
 unfolding reported
@@ -36,4 +24,4 @@ returns-4 c = simp (c .before .before .before .if1 .left, ne-eqb _ _ (c .before 
 
 pub report-spec : {M : Type 1} → statement M
 report-spec =
-    tie.close (tie.spec add-t7 sub-t8 returns returns-2 add-t10 sub-t11 returns-3 returns-4)
+    tie.close (tie.spec (search needs) (search needs) returns returns-2 (search needs) (search needs) returns-3 returns-4)

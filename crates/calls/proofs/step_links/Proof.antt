@@ -7,18 +7,6 @@ use borrow.Author.Needs.{needs}
 use Rattle.calls.proofs.step_links.Statement.{statement}
 use Rattle.calls.proofs.step_links.Tie as tie
 
-no-words-requires : tie.Need-no-words-requires
-no-words-requires c κs = search needs
-
-sub-step : tie.Need-sub-step
-sub-step c = search needs
-
-part-right-start : tie.Need-part-right-start
-part-right-start c = search needs
-
-part-right-end : tie.Need-part-right-end
-part-right-end c = search needs
-
 step-requires : tie.Need-step-requires
 step-requires c κs =
     let s = c .before .before .before .before .before in
@@ -28,20 +16,9 @@ step-requires c κs =
           ∙ lent-length _ _ _ (c .before .before .no-words .ensures) b,
     )
 
-same-length : tie.Need-same-length
-same-length c = search needs
-
 returns : tie.Need-returns
 returns c = search needs
 
 pub step-links-spec : {M : Type 1} → statement M
 step-links-spec =
-    tie.close
-    (tie.spec
-    no-words-requires
-    sub-step
-    part-right-start
-    part-right-end
-    step-requires
-    same-length
-    returns)
+    tie.close (tie.spec (search needs) (search needs) (search needs) (search needs) step-requires (search needs) returns)

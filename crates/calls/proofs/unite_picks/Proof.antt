@@ -14,12 +14,6 @@ Inv-loop p words n m out₀ made₀ k₀ out made k = United n m words k made ou
 abbrev μ-loop : tie.MeasureT-loop
 μ-loop p words n m out₀ made₀ k₀ out made k = m - k
 
-sub-copy-over : tie.Need-sub-copy-over Inv-loop μ-loop
-sub-copy-over c = search needs
-
-part-copy-over-start : tie.Need-part-copy-over-start Inv-loop μ-loop
-part-copy-over-start c = search needs
-
 part-copy-over-end : tie.Need-part-copy-over-end Inv-loop μ-loop
 part-copy-over-end c = omega (arith, lent-end (c .before .before .before .args .n) (c .before .before .before .pre .2))
 
@@ -45,12 +39,6 @@ mul-unite-into : tie.Need-mul-unite-into Inv-loop μ-loop
 mul-unite-into c =
     omega (arith, lent-end (c .before .before .before .before .before .before .before .before .before .before .args .n) (c .before .loop-test .taken))
 
-sub-unite-into : tie.Need-sub-unite-into Inv-loop μ-loop
-sub-unite-into c = search needs
-
-part-unite-into-start : tie.Need-part-unite-into-start Inv-loop μ-loop
-part-unite-into-start c = search needs
-
 part-unite-into-end : tie.Need-part-unite-into-end Inv-loop μ-loop
 part-unite-into-end c =
     omega (arith, lent-end (c .before .before .before .before .before .before .before .before .before .before .args .n) (c .before .loop-test .taken))
@@ -70,12 +58,6 @@ add-made c =
     let h = l .loop .inv .high in
     omega (arith, a .pre .3)
 
-add-k : tie.Need-add-k Inv-loop μ-loop
-add-k c = search needs
-
-loop-less : tie.Need-loop-less Inv-loop μ-loop
-loop-less c = search needs
-
 loop-again : tie.Need-loop-again Inv-loop μ-loop
 loop-again c =
     let u = c .before .before in
@@ -89,9 +71,6 @@ charged-requires c κs =
     let h = c .before .loop .inv .high in
     (omega (arith, a .pre .5), omega (arith, a .pre .3))
 
-same-length : tie.Need-same-length Inv-loop μ-loop
-same-length c = search needs
-
 returns : tie.Need-returns Inv-loop μ-loop
 returns c =
     let l = c .before in
@@ -102,24 +81,5 @@ pub unite-picks-spec : {M : Type 1} → statement M
 unite-picks-spec =
     tie.close
     (tie.spec
-    Inv-loop
-    μ-loop
-    sub-copy-over
-    part-copy-over-start
-    part-copy-over-end
-    copy-over-requires
-    loop-holds
-    mul-at
-    add-unite-into
-    mul-unite-into
-    sub-unite-into
-    part-unite-into-start
-    part-unite-into-end
-    unite-into-requires
-    add-made
-    add-k
-    loop-less
-    loop-again
-    charged-requires
-    same-length
-    returns)
+    Inv-loop μ-loop (search needs) (search needs) part-copy-over-end copy-over-requires loop-holds mul-at add-unite-into mul-unite-into (search needs)
+    (search needs) part-unite-into-end unite-into-requires add-made (search needs) (search needs) loop-again charged-requires (search needs) returns)

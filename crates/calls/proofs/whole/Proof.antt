@@ -10,24 +10,12 @@ use borrow.Author.Needs.{needs}
 use Rattle.calls.proofs.whole.Statement.{statement}
 use Rattle.calls.proofs.whole.Tie as tie
 
-whole-verdict-requires : tie.Need-whole-verdict-requires
-whole-verdict-requires c κs = search needs
-
-enum-told : tie.Need-enum-told
-enum-told c = search needs
-
 div-m : tie.Need-div-m
 div-m c = let t = whole-sound _ _ _ _ (sym (c .before .before .whole-verdict .ensures)
     ∙ ap verdictSays (c .enum-told .given .1)) in let b = t .some-boards in omega arith
 
 whole-run-requires : tie.Need-whole-run-requires
 whole-run-requires c κs = whole-sound _ _ _ _ (sym (c .before .before .before .whole-verdict .ensures) ∙ ap verdictSays (c .before .enum-told .given .1))
-
-enum-known-c : tie.Need-enum-known-c
-enum-known-c c = search needs
-
-same-length : tie.Need-same-length
-same-length c = search needs
 
 returns : tie.Need-returns
 unfolding wholeSays wholeLeaves
@@ -37,9 +25,6 @@ returns c =
     let e = sym (c6 .whole-verdict .ensures) ∙ ap verdictSays (c4 .enum-told .given .1) in
     simp e (c .before .before .whole-run .ensures .0, c .before .before .whole-run .ensures .1)
 
-same-length-2 : tie.Need-same-length-2
-same-length-2 c = search needs
-
 returns-2 : tie.Need-returns-2
 unfolding wholeSays wholeLeaves
 returns-2 c =
@@ -48,14 +33,4 @@ returns-2 c =
 
 pub whole-spec : {M : Type 1} → statement M
 whole-spec =
-    tie.close
-    (tie.spec
-    whole-verdict-requires
-    enum-told
-    div-m
-    whole-run-requires
-    enum-known-c
-    same-length
-    returns
-    same-length-2
-    returns-2)
+    tie.close (tie.spec (search needs) (search needs) div-m whole-run-requires (search needs) (search needs) returns (search needs) returns-2)

@@ -7,18 +7,6 @@ use borrow.Author.Needs.{needs}
 use Rattle.calls.proofs.whole_links.Statement.{statement}
 use Rattle.calls.proofs.whole_links.Tie as tie
 
-no-words-requires : tie.Need-no-words-requires
-no-words-requires c κs = search needs
-
-sub-whole-steps : tie.Need-sub-whole-steps
-sub-whole-steps c = search needs
-
-part-right-start : tie.Need-part-right-start
-part-right-start c = search needs
-
-part-right-end : tie.Need-part-right-end
-part-right-end c = search needs
-
 whole-steps-requires : tie.Need-whole-steps-requires
 whole-steps-requires c κs =
     let s = c .before .before .before .before .before in
@@ -28,20 +16,9 @@ whole-steps-requires c κs =
           ∙ lent-length _ _ _ (c .before .before .no-words .ensures) b,
     )
 
-same-length : tie.Need-same-length
-same-length c = search needs
-
 returns : tie.Need-returns
 returns c = search needs
 
 pub whole-links-spec : {M : Type 1} → statement M
 whole-links-spec =
-    tie.close
-    (tie.spec
-    no-words-requires
-    sub-whole-steps
-    part-right-start
-    part-right-end
-    whole-steps-requires
-    same-length
-    returns)
+    tie.close (tie.spec (search needs) (search needs) (search needs) (search needs) whole-steps-requires (search needs) returns)

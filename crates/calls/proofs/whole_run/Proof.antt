@@ -21,18 +21,12 @@ take-picks-requires c κs =
     whole-starts _ _ _ _ _ _ (s .pre) (list-cost (s .args .measure) (s .args .m) (s .pre .cap)) (c3 .whole-start .ensures .place)
     (c3 .whole-start .kept .1 .1 .1 .1 .0)
 
-zero-needed-requires : tie.Need-zero-needed-requires
-zero-needed-requires c κs = search needs
-
 report-requires : tie.Need-report-requires
 report-requires c κs =
     let s = c .before .before .before .before .before .before .before .before .before .before .before .before .before .before in
     let t = c .before .before .before .before .before .before .take-picks .ensures .1 .all-taken in
     let k = s .pre .cap in
     (c .before .before .before .before .before .before .take-picks .ensures .1 .inside (s .pre .some-picks), omega arith)
-
-same-length : tie.Need-same-length
-same-length c = search needs
 
 returns : tie.Need-returns
 unfolding wholeReport
@@ -51,11 +45,4 @@ returns c =
 
 pub whole-run-spec : {M : Type 1} → statement M
 whole-run-spec =
-    tie.close
-    (tie.spec
-    whole-start-requires
-    take-picks-requires
-    zero-needed-requires
-    report-requires
-    same-length
-    returns)
+    tie.close (tie.spec whole-start-requires take-picks-requires (search needs) report-requires (search needs) returns)

@@ -15,19 +15,10 @@ use borrow.Author.Needs.{needs}
 use Rattle.calls.proofs.whole_start.Statement.{statement}
 use Rattle.calls.proofs.whole_start.Tie as tie
 
-open-requires : tie.Need-open-requires
-open-requires c κs = search needs
-
-add-zero-part : tie.Need-add-zero-part
-add-zero-part c = search needs
-
 zero-part-requires : tie.Need-zero-part-requires
 zero-part-requires c κs =
     let c5 = c .before .before .before .before .before in
     let s = c5 in (s .pre .few, has _ (s .args .m + 4) _ (s .args .m + 3) (s .pre .room) (omega arith) (omega arith))
-
-same-length : tie.Need-same-length
-same-length c = search needs
 
 returns : tie.Need-returns
 returns c =
@@ -67,12 +58,6 @@ mul-unite-picks c =
     let l = links-room (s .args .measure) (s .args .n) (s .args .m) _ (c .if1 .left) (s .pre .room) in
     omega arith
 
-sub-unite-picks : tie.Need-sub-unite-picks
-sub-unite-picks c = search needs
-
-part-unite-picks-start : tie.Need-part-unite-picks-start
-part-unite-picks-start c = search needs
-
 part-unite-picks-end : tie.Need-part-unite-picks-end
 part-unite-picks-end c =
     let s = c .before .before .before .before in
@@ -95,9 +80,6 @@ unite-picks-requires c κs =
       ap (λ (x : Place). x .counts .compositions .0) (c .before .before .«open» .ensures),
     )
 
-same-length-2 : tie.Need-same-length-2
-same-length-2 c = search needs
-
 returns-2 : tie.Need-returns-2
 returns-2 c =
     let c4 = c .before .before .before .before in
@@ -110,18 +92,5 @@ pub whole-start-spec : {M : Type 1} → statement M
 whole-start-spec =
     tie.close
     (tie.spec
-    open-requires
-    add-zero-part
-    zero-part-requires
-    same-length
-    returns
-    add-at
-    mul-at
-    add-unite-picks
-    mul-unite-picks
-    sub-unite-picks
-    part-unite-picks-start
-    part-unite-picks-end
-    unite-picks-requires
-    same-length-2
-    returns-2)
+    (search needs) (search needs) zero-part-requires (search needs) returns add-at mul-at add-unite-picks mul-unite-picks (search needs) (search needs)
+    part-unite-picks-end unite-picks-requires (search needs) returns-2)

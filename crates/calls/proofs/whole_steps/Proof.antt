@@ -23,12 +23,6 @@ abbrev μ-loop : tie.MeasureT-loop
 loop-holds : tie.Need-loop-holds Inv-loop μ-loop
 loop-holds c = (search needs, along-start _ _ _ _ (c .before .before .before .pre .0), bare-none _ _ _ _, refl)
 
-is-finished-requires : tie.Need-is-finished-requires Inv-loop μ-loop
-is-finished-requires c κs = search needs
-
-sub-picks-taken : tie.Need-sub-picks-taken Inv-loop μ-loop
-sub-picks-taken c = search needs
-
 picks-taken-requires : tie.Need-picks-taken-requires Inv-loop μ-loop
 picks-taken-requires c κs =
     let s = c .before .before .before .before .before .before .before in
@@ -68,12 +62,6 @@ mul-step c =
     let c8 = c3 .before .before .before .before .before in
     let w = c8 .pre .0 .words in omega (arith, lent-end (c8 .args .p .settings .boards) (c3 .loop-test .taken))
 
-sub-step : tie.Need-sub-step Inv-loop μ-loop
-sub-step c = search needs
-
-part-step-start : tie.Need-part-step-start Inv-loop μ-loop
-part-step-start c = search needs
-
 part-step-end : tie.Need-part-step-end Inv-loop μ-loop
 part-step-end c =
     let c3 = c .before .before .before in
@@ -95,9 +83,6 @@ add-k c =
     let c10 = c .before .before .before .before .before .before .before .before .before .before in
     let c15 = c10 .before .before .before .before .before in
     omega (arith, c15 .pre .0 .ready .able .cap, c15 .pre .0 .limit, c10 .loop-test .taken)
-
-loop-less : tie.Need-loop-less Inv-loop μ-loop
-loop-less c = search needs
 
 loop-again : tie.Need-loop-again Inv-loop μ-loop
 loop-again c =
@@ -126,25 +111,5 @@ pub whole-steps-spec : {M : Type 1} → statement M
 whole-steps-spec =
     tie.close
     (tie.spec
-    Inv-loop
-    μ-loop
-    loop-holds
-    is-finished-requires
-    sub-picks-taken
-    picks-taken-requires
-    same-length
-    same-length-2
-    returns
-    mul-at
-    add-step
-    mul-step
-    sub-step
-    part-step-start
-    part-step-end
-    step-requires
-    add-k
-    loop-less
-    loop-again
-    same-length-3
-    same-length-4
-    returns-2)
+    Inv-loop μ-loop loop-holds (search needs) (search needs) picks-taken-requires same-length same-length-2 returns mul-at add-step mul-step
+    (search needs) (search needs) part-step-end step-requires add-k (search needs) loop-again same-length-3 same-length-4 returns-2)

@@ -20,15 +20,6 @@ mul-e-2 c = let b = c .before .before .pre .0 .ready .able .few in omega (arith,
 add-e : tie.Need-add-e
 add-e c = let b = c .before .before .pre .0 .ready .able .few in omega (arith, mul-le-mul b b)
 
-no-times-requires : tie.Need-no-times-requires
-no-times-requires c κs = search needs
-
-sub-whole-steps : tie.Need-sub-whole-steps
-sub-whole-steps c = search needs
-
-part-right-start : tie.Need-part-right-start
-part-right-start c = search needs
-
 part-right-end : tie.Need-part-right-end
 part-right-end c =
     let c4 = c .before .before .before .before in
@@ -43,23 +34,9 @@ whole-steps-requires c κs =
           ∙ lent-length _ _ _ (c .before .before .no-times .ensures) (omega (arith, mul-le-mul b b)),
     )
 
-same-length : tie.Need-same-length
-same-length c = search needs
-
 returns : tie.Need-returns
 returns c = search needs
 
 pub whole-times-spec : {M : Type 1} → statement M
 whole-times-spec =
-    tie.close
-    (tie.spec
-    mul-e
-    mul-e-2
-    add-e
-    no-times-requires
-    sub-whole-steps
-    part-right-start
-    part-right-end
-    whole-steps-requires
-    same-length
-    returns)
+    tie.close (tie.spec mul-e mul-e-2 add-e (search needs) (search needs) (search needs) part-right-end whole-steps-requires (search needs) returns)

@@ -10,24 +10,6 @@ use borrow.Author.Needs.{needs}
 use Rattle.checks.proofs.all_open.Statement.{statement}
 use Rattle.checks.proofs.all_open.Tie as tie
 
-allowed-bits-requires : tie.Need-allowed-bits-requires
-allowed-bits-requires c κs = search needs
-
-no-words-requires : tie.Need-no-words-requires
-no-words-requires c κs = search needs
-
-sub-fill-rows : tie.Need-sub-fill-rows
-sub-fill-rows c = search needs
-
-part-rows-start : tie.Need-part-rows-start
-part-rows-start c = search needs
-
-part-rows-end : tie.Need-part-rows-end
-part-rows-end c = search needs
-
-fill-rows-requires : tie.Need-fill-rows-requires
-fill-rows-requires c κs = search needs
-
 returns : tie.Need-returns
 unfolding allOpen
 returns c =
@@ -37,12 +19,4 @@ returns c =
 
 pub all-open-spec : {M : Type 1} → statement M
 all-open-spec =
-    tie.close
-    (tie.spec
-    allowed-bits-requires
-    no-words-requires
-    sub-fill-rows
-    part-rows-start
-    part-rows-end
-    fill-rows-requires
-    returns)
+    tie.close (tie.spec (search needs) (search needs) (search needs) (search needs) (search needs) (search needs) returns)

@@ -19,15 +19,10 @@ ones (suc k) i = (2 ^ i - 1) ∷ ones k (i + 1)
 right : ℕ → ℕ → Bool
 right k x = eqb x (2 ^ k - 1)
 
-mul-result : tie.Need-mul-result
-mul-result c = search needs
-
-array-read-result : tie.Need-array-read-result
-array-read-result c = search needs
-
 returns : tie.Need-returns
 unfolding right allowed
 returns c = eqb→eq (getD (ones 33 0) (c .args .n) 0) (2 ^ c .args .n - 1) (at right (ones 33 0) tt (c .args .n) (search needs))
 
 pub allowed-bits-spec : {M : Type 1} → statement M
-allowed-bits-spec = tie.close (tie.spec mul-result array-read-result returns)
+allowed-bits-spec =
+    tie.close (tie.spec (search needs) (search needs) returns)

@@ -9,39 +9,6 @@ use borrow.Author.Needs.{needs}
 use Rattle.checks.proofs.are_clean.Statement.{statement}
 use Rattle.checks.proofs.are_clean.Tie as tie
 
-all-open-requires : tie.Need-all-open-requires
-all-open-requires c κs = search needs
-
-no-words-requires : tie.Need-no-words-requires
-no-words-requires c κs = search needs
-
-sub-unite-all : tie.Need-sub-unite-all
-sub-unite-all c = search needs
-
-part-any-start : tie.Need-part-any-start
-part-any-start c = search needs
-
-part-any-end : tie.Need-part-any-end
-part-any-end c = search needs
-
-unite-all-requires : tie.Need-unite-all-requires
-unite-all-requires c κs = search needs
-
-sub-is-listed : tie.Need-sub-is-listed
-sub-is-listed c = search needs
-
-part-is-listed-start : tie.Need-part-is-listed-start
-part-is-listed-start c = search needs
-
-part-is-listed-end : tie.Need-part-is-listed-end
-part-is-listed-end c = search needs
-
-sub-is-listed-2 : tie.Need-sub-is-listed-2
-sub-is-listed-2 c = search needs
-
-part-is-listed-start-2 : tie.Need-part-is-listed-start-2
-part-is-listed-start-2 c = search needs
-
 part-is-listed-end-2 : tie.Need-part-is-listed-end-2
 part-is-listed-end-2 c =
     let u = c .before .before .before .before in
@@ -67,17 +34,5 @@ pub are-clean-spec : {M : Type 1} → statement M
 are-clean-spec =
     tie.close
     (tie.spec
-    all-open-requires
-    no-words-requires
-    sub-unite-all
-    part-any-start
-    part-any-end
-    unite-all-requires
-    sub-is-listed
-    part-is-listed-start
-    part-is-listed-end
-    sub-is-listed-2
-    part-is-listed-start-2
-    part-is-listed-end-2
-    is-listed-requires
-    returns)
+    (search needs) (search needs) (search needs) (search needs) (search needs) (search needs) (search needs) (search needs) (search needs) (search needs)
+    (search needs) part-is-listed-end-2 is-listed-requires returns)

@@ -22,26 +22,8 @@ Inv-loop words n bits bad₀ u₀ bad u = (u ≤ n) × (eqb bad 0 ≡ every (cle
 abbrev μ-loop : tie.MeasureT-loop
 μ-loop words n bits bad₀ u₀ bad u = n - u
 
-allowed-bits-requires : tie.Need-allowed-bits-requires Inv-loop μ-loop
-allowed-bits-requires c κs = search needs
-
 loop-holds : tie.Need-loop-holds Inv-loop μ-loop
 loop-holds c = (search needs, sym (every-none _))
-
-mul-bad : tie.Need-mul-bad Inv-loop μ-loop
-mul-bad c = search needs
-
-shared-slice-read-bad : tie.Need-shared-slice-read-bad Inv-loop μ-loop
-shared-slice-read-bad c = search needs
-
-cleared-requires : tie.Need-cleared-requires Inv-loop μ-loop
-cleared-requires c κs = search needs
-
-add-u : tie.Need-add-u Inv-loop μ-loop
-add-u c = search needs
-
-loop-less : tie.Need-loop-less Inv-loop μ-loop
-loop-less c = search needs
 
 loop-again : tie.Need-loop-again Inv-loop μ-loop
 loop-again c =
@@ -61,16 +43,4 @@ returns c = let e : c .before .loop .u ≡ c .before .before .before .before .ar
 
 pub is-clean-spec : {M : Type 1} → statement M
 is-clean-spec =
-    tie.close
-    (tie.spec
-    Inv-loop
-    μ-loop
-    allowed-bits-requires
-    loop-holds
-    mul-bad
-    shared-slice-read-bad
-    cleared-requires
-    add-u
-    loop-less
-    loop-again
-    returns)
+    tie.close (tie.spec Inv-loop μ-loop (search needs) loop-holds (search needs) (search needs) (search needs) (search needs) (search needs) loop-again returns)

@@ -26,12 +26,6 @@ add-unite-into c = omega (arith, lent-end (c .before .before .before .before .be
 mul-unite-into : tie.Need-mul-unite-into Inv-loop μ-loop
 mul-unite-into c = omega (arith, lent-end (c .before .before .before .before .before .args .n) (c .before .loop-test .taken))
 
-sub-unite-into : tie.Need-sub-unite-into Inv-loop μ-loop
-sub-unite-into c = search needs
-
-part-unite-into-start : tie.Need-part-unite-into-start Inv-loop μ-loop
-part-unite-into-start c = search needs
-
 part-unite-into-end : tie.Need-part-unite-into-end Inv-loop μ-loop
 part-unite-into-end c = omega (arith, lent-end (c .before .before .before .before .before .args .n) (c .before .loop-test .taken))
 
@@ -42,20 +36,11 @@ unite-into-requires c κs =
     let k = lent-room (a .args .n) (l .loop .k) (a .args .m) (a .args .words .now) (a .pre .1) (c .before .before .loop-test .taken) in
     (l .loop .inv .long, omega arith)
 
-add-k : tie.Need-add-k Inv-loop μ-loop
-add-k c = search needs
-
-loop-less : tie.Need-loop-less Inv-loop μ-loop
-loop-less c = search needs
-
 loop-again : tie.Need-loop-again Inv-loop μ-loop
 loop-again c =
     let u = c .before .before in
     let t = u .before .before .before in
     united-turn (t .before .loop .inv) (t .loop-test .taken) (lent-part _ _ _) (u .unite-into .ensures)
-
-same-length : tie.Need-same-length Inv-loop μ-loop
-same-length c = search needs
 
 returns : tie.Need-returns Inv-loop μ-loop
 returns c = united-all (c .before .loop .inv) (c .loop-test .left)
@@ -64,18 +49,5 @@ pub unite-all-spec : {M : Type 1} → statement M
 unite-all-spec =
     tie.close
     (tie.spec
-    Inv-loop
-    μ-loop
-    loop-holds
-    mul-at
-    add-unite-into
-    mul-unite-into
-    sub-unite-into
-    part-unite-into-start
-    part-unite-into-end
-    unite-into-requires
-    add-k
-    loop-less
-    loop-again
-    same-length
-    returns)
+    Inv-loop μ-loop loop-holds mul-at add-unite-into mul-unite-into (search needs) (search needs) part-unite-into-end unite-into-requires (search needs)
+    (search needs) loop-again (search needs) returns)

@@ -18,12 +18,6 @@ returns-2 : tie.Need-returns-2
 unfolding firstOr
 returns-2 c = simp (head-then, ne-eqb _ _ (c .before .if1 .left), lt-ltb _ _ (c .if2 .taken))
 
-command-at-requires : tie.Need-command-at-requires
-command-at-requires c κs = search needs
-
-enum-known-command : tie.Need-enum-known-command
-enum-known-command c = search needs
-
 returns-3 : tie.Need-returns-3
 returns-3 c =
     let m = c .before in
@@ -67,15 +61,4 @@ returns-7 c = let k = c .before .before .before .before in
 
 pub head-at-spec : {M : Type 1} → statement M
 head-at-spec =
-    tie.close
-    (tie.spec
-    returns
-    returns-2
-    command-at-requires
-    enum-known-command
-    returns-3
-    returns-4
-    returns-5
-    mul-if5
-    returns-6
-    returns-7)
+    tie.close (tie.spec returns returns-2 (search needs) (search needs) returns-3 returns-4 returns-5 mul-if5 returns-6 returns-7)

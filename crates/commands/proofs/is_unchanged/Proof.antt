@@ -5,15 +5,6 @@ use borrow.Author.Needs.{needs}
 use Rattle.commands.proofs.is_unchanged.Statement.{statement}
 use Rattle.commands.proofs.is_unchanged.Tie as tie
 
-mul-linked : tie.Need-mul-linked
-mul-linked c = search needs
-
-shared-slice-read-linked : tie.Need-shared-slice-read-linked
-shared-slice-read-linked c = search needs
-
-linked-requires : tie.Need-linked-requires
-linked-requires c κs = search needs
-
 returns : tie.Need-returns
 unfolding link
 returns c = simp (c .if1 .taken, c .before .linked .ensures)
@@ -24,4 +15,4 @@ returns-2 c = simp (c .if1 .left, c .before .linked .ensures)
 
 pub is-unchanged-spec : {M : Type 1} → statement M
 is-unchanged-spec =
-    tie.close (tie.spec mul-linked shared-slice-read-linked linked-requires returns returns-2)
+    tie.close (tie.spec (search needs) (search needs) (search needs) returns returns-2)

@@ -10,21 +10,9 @@ use borrow.Author.Needs.{needs}
 use Rattle.commands.proofs.next.Statement.{statement}
 use Rattle.commands.proofs.next.Tie as tie
 
-command-at-requires : tie.Need-command-at-requires
-command-at-requires c κs = search needs
-
-enum-known-command : tie.Need-enum-known-command
-enum-known-command c = search needs
-
 returns : tie.Need-returns
 unfolding firstOr
 returns c = simp (next-then, sym (c .before .command-at .ensures)) (sym (next-other _ _ _ _ _ (c .match .keys2)))
-
-enum-known-item : tie.Need-enum-known-item
-enum-known-item c = search needs
-
-no-link-requires : tie.Need-no-link-requires
-no-link-requires c κs = search needs
 
 returns-2 : tie.Need-returns-2
 unfolding firstOr
@@ -52,16 +40,10 @@ returns-3 c = let a = c .before .before in
     let e = sym (m .before .before .command-at .ensures) ∙ m .command .given .1 in
     simp (next-then, e, i .item .given .1, sym (a .before .no-link .ensures) ∙ a .if1 .left, sym (c .before .is-unchanged .ensures) ∙ c .if2 .taken)
 
-enum-told : tie.Need-enum-told
-enum-told c = search needs
-
 returns-4 : tie.Need-returns-4
 unfolding firstOr
 returns-4 c = let m = c .before .before .before .before in
     simp (next-then, sym (m .before .before .command-at .ensures) ∙ m .command .given .1, c .before .enum-told .given .1, le-leb _ _ (c .if3 .taken))
-
-enum-told-2 : tie.Need-enum-told-2
-enum-told-2 c = search needs
 
 returns-5 : tie.Need-returns-5
 unfolding firstOr
@@ -85,17 +67,5 @@ pub next-spec : {M : Type 1} → statement M
 next-spec =
     tie.close
     (tie.spec
-    command-at-requires
-    enum-known-command
-    returns
-    enum-known-item
-    no-link-requires
-    returns-2
-    is-unchanged-requires
-    returns-3
-    enum-told
-    returns-4
-    enum-told-2
-    returns-5
-    returns-6
-    returns-7)
+    (search needs) (search needs) returns (search needs) (search needs) returns-2 is-unchanged-requires returns-3 (search needs) returns-4 (search needs)
+    returns-5 returns-6 returns-7)

@@ -25,22 +25,10 @@ loop-holds : tie.Need-loop-holds Inv-loop μ-loop
 unfolding widthOf
 loop-holds c = (search needs, refl)
 
-mul-shape : tie.Need-mul-shape Inv-loop μ-loop
-mul-shape c = search needs
-
-array-copy-out-shape : tie.Need-array-copy-out-shape Inv-loop μ-loop
-array-copy-out-shape c = search needs
-
 returns : tie.Need-returns Inv-loop μ-loop
 returns c =
     let at = c .before .before .before .before .loop in
     sym (lookup-hit shapes (at .i) (c .before .before .before .before .before .args .byte) none (omega arith) (c .if1 .taken)) ∙ at .inv .1
-
-add-i : tie.Need-add-i Inv-loop μ-loop
-add-i c = search needs
-
-loop-less : tie.Need-loop-less Inv-loop μ-loop
-loop-less c = search needs
 
 loop-again : tie.Need-loop-again Inv-loop μ-loop
 loop-again c =
@@ -52,15 +40,4 @@ returns-2 c = sym (lookup-end shapes (c .before .loop .i) (c .before .before .ar
 
 pub operands-of-spec : {M : Type 1} → statement M
 operands-of-spec =
-    tie.close
-    (tie.spec
-    Inv-loop
-    μ-loop
-    loop-holds
-    mul-shape
-    array-copy-out-shape
-    returns
-    add-i
-    loop-less
-    loop-again
-    returns-2)
+    tie.close (tie.spec Inv-loop μ-loop loop-holds (search needs) (search needs) returns (search needs) (search needs) loop-again returns-2)

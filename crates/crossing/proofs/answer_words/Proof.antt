@@ -7,9 +7,6 @@ use borrow.Author.Needs.{needs}
 use Rattle.crossing.proofs.answer_words.Statement.{statement}
 use Rattle.crossing.proofs.answer_words.Tie as tie
 
-enum-known-a : tie.Need-enum-known-a
-enum-known-a c = search needs
-
 narrow-requires : tie.Need-narrow-requires
 narrow-requires c κs = subst NarrowAnswer (ap answerSays (c .before .a .given .1)) (c .before .before .before .pre) .length
 
@@ -18,12 +15,6 @@ narrow-requires-2 c κs = subst NarrowAnswer (ap answerSays (c .before .before .
 
 narrow-requires-3 : tie.Need-narrow-requires-3
 narrow-requires-3 c κs = subst NarrowAnswer (ap answerSays (c .before .before .before .a .given .1)) (c .before .before .before .before .before .pre) .tests
-
-enum-known-a-2 : tie.Need-enum-known-a-2
-enum-known-a-2 c = search needs
-
-cause-word-requires : tie.Need-cause-word-requires
-cause-word-requires c κs = search needs
 
 narrow-requires-4 : tie.Need-narrow-requires-4
 narrow-requires-4 c κs = subst NarrowAnswer (ap answerSays (c .before .before .a2 .given .1)) (c .before .before .before .before .pre) .compositions
@@ -41,13 +32,4 @@ pub answer-words-spec : {M : Type 1} → statement M
 answer-words-spec =
     tie.close
     (tie.spec
-    enum-known-a
-    narrow-requires
-    narrow-requires-2
-    narrow-requires-3
-    enum-known-a-2
-    cause-word-requires
-    narrow-requires-4
-    narrow-requires-5
-    returns
-    returns-2)
+    (search needs) narrow-requires narrow-requires-2 narrow-requires-3 (search needs) (search needs) narrow-requires-4 narrow-requires-5 returns returns-2)

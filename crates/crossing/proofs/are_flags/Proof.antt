@@ -7,17 +7,12 @@ use Rattle.model.proofs.Logic.{and-step, and-stop}
 use Rattle.crossing.proofs.are_flags.Statement.{statement}
 use Rattle.crossing.proofs.are_flags.Tie as tie
 
-is-flag-requires : tie.Need-is-flag-requires
-is-flag-requires c κs = search needs
-
 returns : tie.Need-returns
 returns c = and-stop _ (sym (c .before .is-flag .ensures) ∙ not-true _ (c .if1 .taken))
-
-is-flag-requires-2 : tie.Need-is-flag-requires-2
-is-flag-requires-2 c κs = search needs
 
 returns-2 : tie.Need-returns-2
 returns-2 c = and-step (sym (c .before .before .is-flag .ensures) ∙ not-false _ (c .before .if1 .left)) (c .is-flag2 .ensures)
 
 pub are-flags-spec : {M : Type 1} → statement M
-are-flags-spec = tie.close (tie.spec is-flag-requires returns is-flag-requires-2 returns-2)
+are-flags-spec =
+    tie.close (tie.spec (search needs) returns (search needs) returns-2)

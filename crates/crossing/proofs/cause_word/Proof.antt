@@ -7,14 +7,9 @@ use borrow.Author.Needs.{needs}
 use Rattle.crossing.proofs.cause_word.Statement.{statement}
 use Rattle.crossing.proofs.cause_word.Tie as tie
 
-number-of-requires : tie.Need-number-of-requires
-number-of-requires c κs = search needs
-
 narrow-requires : tie.Need-narrow-requires
 narrow-requires c κs = rw (c .number-of .ensures) (small (omega (arith, number-range (c .before .args .c) .1)))
 
-returns : tie.Need-returns
-returns c = search needs
-
 pub cause-word-spec : {M : Type 1} → statement M
-cause-word-spec = tie.close (tie.spec number-of-requires narrow-requires returns)
+cause-word-spec =
+    tie.close (tie.spec (search needs) narrow-requires (search needs))

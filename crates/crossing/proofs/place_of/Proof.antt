@@ -5,30 +5,6 @@ use borrow.Author.Needs.{needs}
 use Rattle.crossing.proofs.place_of.Statement.{statement}
 use Rattle.crossing.proofs.place_of.Tie as tie
 
-wide-requires : tie.Need-wide-requires
-wide-requires c κs = search needs
-
-wide-requires-2 : tie.Need-wide-requires-2
-wide-requires-2 c κs = search needs
-
-wide-requires-3 : tie.Need-wide-requires-3
-wide-requires-3 c κs = search needs
-
-wide-requires-4 : tie.Need-wide-requires-4
-wide-requires-4 c κs = search needs
-
-wide-requires-5 : tie.Need-wide-requires-5
-wide-requires-5 c κs = search needs
-
-wide-requires-6 : tie.Need-wide-requires-6
-wide-requires-6 c κs = search needs
-
-wide-requires-7 : tie.Need-wide-requires-7
-wide-requires-7 c κs = search needs
-
-wide-requires-8 : tie.Need-wide-requires-8
-wide-requires-8 c κs = search needs
-
 returns : tie.Need-returns
 unfolding placeOf
 returns c =
@@ -51,14 +27,4 @@ returns c =
 
 pub place-of-spec : {M : Type 1} → statement M
 place-of-spec =
-    tie.close
-    (tie.spec
-    wide-requires
-    wide-requires-2
-    wide-requires-3
-    wide-requires-4
-    wide-requires-5
-    wide-requires-6
-    wide-requires-7
-    wide-requires-8
-    returns)
+    tie.close (tie.spec (search needs) (search needs) (search needs) (search needs) (search needs) (search needs) (search needs) (search needs) returns)

@@ -5,36 +5,6 @@ use borrow.Author.Needs.{needs}
 use Rattle.crossing.proofs.words_of.Statement.{statement}
 use Rattle.crossing.proofs.words_of.Tie as tie
 
-narrow-requires : tie.Need-narrow-requires
-narrow-requires c κs = search needs
-
-narrow-requires-2 : tie.Need-narrow-requires-2
-narrow-requires-2 c κs = search needs
-
-narrow-requires-3 : tie.Need-narrow-requires-3
-narrow-requires-3 c κs = search needs
-
-narrow-requires-4 : tie.Need-narrow-requires-4
-narrow-requires-4 c κs = search needs
-
-narrow-requires-5 : tie.Need-narrow-requires-5
-narrow-requires-5 c κs = search needs
-
-narrow-requires-6 : tie.Need-narrow-requires-6
-narrow-requires-6 c κs = search needs
-
-word-of-requires : tie.Need-word-of-requires
-word-of-requires c κs = search needs
-
-word-of-requires-2 : tie.Need-word-of-requires-2
-word-of-requires-2 c κs = search needs
-
-narrow-requires-7 : tie.Need-narrow-requires-7
-narrow-requires-7 c κs = search needs
-
-narrow-requires-8 : tie.Need-narrow-requires-8
-narrow-requires-8 c κs = search needs
-
 returns : tie.Need-returns
 unfolding wordsOf
 returns c =
@@ -62,14 +32,5 @@ pub words-of-spec : {M : Type 1} → statement M
 words-of-spec =
     tie.close
     (tie.spec
-    narrow-requires
-    narrow-requires-2
-    narrow-requires-3
-    narrow-requires-4
-    narrow-requires-5
-    narrow-requires-6
-    word-of-requires
-    word-of-requires-2
-    narrow-requires-7
-    narrow-requires-8
+    (search needs) (search needs) (search needs) (search needs) (search needs) (search needs) (search needs) (search needs) (search needs) (search needs)
     returns)

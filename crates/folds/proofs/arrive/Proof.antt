@@ -8,12 +8,6 @@ use borrow.Author.Needs.{needs}
 use Rattle.folds.proofs.arrive.Statement.{statement}
 use Rattle.folds.proofs.arrive.Tie as tie
 
-some-rows-requires : tie.Need-some-rows-requires
-some-rows-requires c κs = search needs
-
-write-requires : tie.Need-write-requires
-write-requires c κs = search needs
-
 fold-rows-requires : tie.Need-fold-rows-requires
 fold-rows-requires c κs =
     let c4 = c .before .before .before .before in
@@ -23,18 +17,6 @@ fold-rows-requires c κs =
     let n = c12 .args .n in
     let small = small-sets n (cell n (c12 .args .half .now)) (c12 .args .later .now) _ (c4 .write .ensures ∙ simp (c7 .some-rows .ensures)) in
     (p .0, (search needs, (p .1 .1 .1 .1, (p .1 .1 .0, small))))
-
-fold-over-requires : tie.Need-fold-over-requires
-fold-over-requires c κs = search needs
-
-same-length : tie.Need-same-length
-same-length c = search needs
-
-same-length-2 : tie.Need-same-length-2
-same-length-2 c = search needs
-
-same-length-3 : tie.Need-same-length-3
-same-length-3 c = search needs
 
 returns : tie.Need-returns
 returns c =
@@ -48,13 +30,4 @@ returns c =
 
 pub arrive-spec : {M : Type 1} → statement M
 arrive-spec =
-    tie.close
-    (tie.spec
-    some-rows-requires
-    write-requires
-    fold-rows-requires
-    fold-over-requires
-    same-length
-    same-length-2
-    same-length-3
-    returns)
+    tie.close (tie.spec (search needs) (search needs) fold-rows-requires (search needs) (search needs) (search needs) (search needs) returns)

@@ -10,30 +10,6 @@ use borrow.Author.Needs.{needs}
 use Rattle.folds.proofs.compose_over.Statement.{statement}
 use Rattle.folds.proofs.compose_over.Tie as tie
 
-mul-m : tie.Need-mul-m
-mul-m c = search needs
-
-no-words-requires : tie.Need-no-words-requires
-no-words-requires c κs = search needs
-
-no-times-requires : tie.Need-no-times-requires
-no-times-requires c κs = search needs
-
-sub-compose-in : tie.Need-sub-compose-in
-sub-compose-in c = search needs
-
-part-sets-start : tie.Need-part-sets-start
-part-sets-start c = search needs
-
-part-sets-end : tie.Need-part-sets-end
-part-sets-end c = search needs
-
-sub-compose-in-2 : tie.Need-sub-compose-in-2
-sub-compose-in-2 c = search needs
-
-part-room-start : tie.Need-part-room-start
-part-room-start c = search needs
-
 part-room-end : tie.Need-part-room-end
 part-room-end c =
     let c6 = c .before .before .before .before .before .before in
@@ -47,9 +23,6 @@ compose-in-requires c κs =
     let p = c7 .pre in
     (p .0, (p .1 .0, (p .1 .1, (lent-length _ _ _ (c4 .no-words .ensures) (p .0), lent-length _ _ _ (c3 .no-times .ensures) (square (p .0))))))
 
-same-length : tie.Need-same-length
-same-length c = search needs
-
 returns : tie.Need-returns
 returns c = search needs
 
@@ -57,15 +30,5 @@ pub compose-over-spec : {M : Type 1} → statement M
 compose-over-spec =
     tie.close
     (tie.spec
-    mul-m
-    no-words-requires
-    no-times-requires
-    sub-compose-in
-    part-sets-start
-    part-sets-end
-    sub-compose-in-2
-    part-room-start
-    part-room-end
-    compose-in-requires
-    same-length
-    returns)
+    (search needs) (search needs) (search needs) (search needs) (search needs) (search needs) (search needs) (search needs) part-room-end
+    compose-in-requires (search needs) returns)

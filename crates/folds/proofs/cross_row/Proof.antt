@@ -8,15 +8,6 @@ use borrow.Author.Needs.{needs}
 use Rattle.folds.proofs.cross_row.Statement.{statement}
 use Rattle.folds.proofs.cross_row.Tie as tie
 
-both-later-requires : tie.Need-both-later-requires
-both-later-requires c κs = search needs
-
-mul-out : tie.Need-mul-out
-mul-out c = search needs
-
-slice-write-out : tie.Need-slice-write-out
-slice-write-out c = search needs
-
 same-length : tie.Need-same-length
 same-length c = search needs
 
@@ -27,4 +18,5 @@ returns c =
     row-last (each (better true) (c7 .args .row .now) (c7 .args .joined .now)) _ _ _ _ (c .before .before .both-later .ensures) (c7 .pre .0) (λ v. refl)
 
 pub cross-row-spec : {M : Type 1} → statement M
-cross-row-spec = tie.close (tie.spec both-later-requires mul-out slice-write-out same-length returns)
+cross-row-spec =
+    tie.close (tie.spec (search needs) (search needs) (search needs) same-length returns)

@@ -31,12 +31,6 @@ add-cross-row c = omega (arith, row-le _ (c .loop-test .taken))
 mul-cross-row : tie.Need-mul-cross-row Inv-loop μ-loop
 mul-cross-row c = omega (arith, row-le _ (c .loop-test .taken))
 
-sub-cross-row : tie.Need-sub-cross-row Inv-loop μ-loop
-sub-cross-row c = search needs
-
-part-cross-row-start : tie.Need-part-cross-row-start Inv-loop μ-loop
-part-cross-row-start c = search needs
-
 part-cross-row-end : tie.Need-part-cross-row-end Inv-loop μ-loop
 part-cross-row-end c = omega (arith, row-le _ (c .loop-test .taken))
 
@@ -46,12 +40,6 @@ add-cross-row-2 c = omega (arith, row-le _ (c .before .loop-test .taken))
 mul-cross-row-2 : tie.Need-mul-cross-row-2 Inv-loop μ-loop
 mul-cross-row-2 c = omega (arith, row-le _ (c .before .loop-test .taken))
 
-sub-cross-row-2 : tie.Need-sub-cross-row-2 Inv-loop μ-loop
-sub-cross-row-2 c = search needs
-
-part-cross-row-start-2 : tie.Need-part-cross-row-start-2 Inv-loop μ-loop
-part-cross-row-start-2 c = search needs
-
 part-cross-row-end-2 : tie.Need-part-cross-row-end-2 Inv-loop μ-loop
 part-cross-row-end-2 c = omega (arith, row-le _ (c .before .loop-test .taken))
 
@@ -60,12 +48,6 @@ add-cross-row-3 c = omega (arith, row-le _ (c .before .before .loop-test .taken)
 
 mul-cross-row-3 : tie.Need-mul-cross-row-3 Inv-loop μ-loop
 mul-cross-row-3 c = omega (arith, row-le _ (c .before .before .loop-test .taken))
-
-sub-cross-row-3 : tie.Need-sub-cross-row-3 Inv-loop μ-loop
-sub-cross-row-3 c = search needs
-
-part-cross-row-start-3 : tie.Need-part-cross-row-start-3 Inv-loop μ-loop
-part-cross-row-start-3 c = search needs
 
 part-cross-row-end-3 : tie.Need-part-cross-row-end-3 Inv-loop μ-loop
 part-cross-row-end-3 c = omega (arith, row-le _ (c .before .before .loop-test .taken))
@@ -85,12 +67,6 @@ cross-row-requires c κs =
       ),
     )
 
-add-u : tie.Need-add-u Inv-loop μ-loop
-add-u c = search needs
-
-loop-less : tie.Need-loop-less Inv-loop μ-loop
-loop-less c = search needs
-
 loop-again : tie.Need-loop-again Inv-loop μ-loop
 loop-again c =
     let c6 = c .before .before .before .before .before .before in
@@ -100,9 +76,6 @@ loop-again c =
     (written-part _ _ _ (c .before .before .cross-row .ensures ∙ joined-lent true (c11 .args .n) (c7 .loop .u) (c11 .args .half .now)
     (c11 .args .folds .now)))
 
-same-length : tie.Need-same-length Inv-loop μ-loop
-same-length c = search needs
-
 returns : tie.Need-returns Inv-loop μ-loop
 returns c = rowed-all (c .before .loop .inv) (c .loop-test .left)
 
@@ -110,28 +83,6 @@ pub cross-rows-spec : {M : Type 1} → statement M
 cross-rows-spec =
     tie.close
     (tie.spec
-    Inv-loop
-    μ-loop
-    loop-holds
-    mul-at
-    add-cross-row
-    mul-cross-row
-    sub-cross-row
-    part-cross-row-start
-    part-cross-row-end
-    add-cross-row-2
-    mul-cross-row-2
-    sub-cross-row-2
-    part-cross-row-start-2
-    part-cross-row-end-2
-    add-cross-row-3
-    mul-cross-row-3
-    sub-cross-row-3
-    part-cross-row-start-3
-    part-cross-row-end-3
-    cross-row-requires
-    add-u
-    loop-less
-    loop-again
-    same-length
-    returns)
+    Inv-loop μ-loop loop-holds mul-at add-cross-row mul-cross-row (search needs) (search needs) part-cross-row-end add-cross-row-2 mul-cross-row-2
+    (search needs) (search needs) part-cross-row-end-2 add-cross-row-3 mul-cross-row-3 (search needs) (search needs) part-cross-row-end-3
+    cross-row-requires (search needs) (search needs) loop-again (search needs) returns)

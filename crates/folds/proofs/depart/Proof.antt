@@ -7,30 +7,12 @@ use borrow.Author.Needs.{needs}
 use Rattle.folds.proofs.depart.Statement.{statement}
 use Rattle.folds.proofs.depart.Tie as tie
 
-column-sets-requires : tie.Need-column-sets-requires
-column-sets-requires c κs = search needs
-
 fold-rows-requires : tie.Need-fold-rows-requires
 fold-rows-requires c κs =
     let c7 = c .before .before .before .before .before .before .before in
     let c15 = c7 .before .before .before .before .before .before .before .before in
     let n = c15 .args .n in
     (c15 .pre .0, (search needs, (search needs, (search needs, small-sets n (turned n (c15 .args .right .now)) _ _ (c7 .column-sets .ensures .1)))))
-
-turn-requires : tie.Need-turn-requires
-turn-requires c κs = search needs
-
-cross-rows-requires : tie.Need-cross-rows-requires
-cross-rows-requires c κs = search needs
-
-same-length : tie.Need-same-length
-same-length c = search needs
-
-same-length-2 : tie.Need-same-length-2
-same-length-2 c = search needs
-
-same-length-3 : tie.Need-same-length-3
-same-length-3 c = search needs
 
 returns : tie.Need-returns
 returns c =
@@ -44,13 +26,4 @@ returns c =
 
 pub depart-spec : {M : Type 1} → statement M
 depart-spec =
-    tie.close
-    (tie.spec
-    column-sets-requires
-    fold-rows-requires
-    turn-requires
-    cross-rows-requires
-    same-length
-    same-length-2
-    same-length-3
-    returns)
+    tie.close (tie.spec (search needs) fold-rows-requires (search needs) (search needs) (search needs) (search needs) (search needs) returns)

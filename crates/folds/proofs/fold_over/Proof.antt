@@ -31,12 +31,6 @@ add-take-fold c = omega (arith, row-le _ (c .loop-test .taken))
 mul-take-fold : tie.Need-mul-take-fold Inv-loop μ-loop
 mul-take-fold c = omega (arith, row-le _ (c .loop-test .taken))
 
-sub-take-fold : tie.Need-sub-take-fold Inv-loop μ-loop
-sub-take-fold c = search needs
-
-part-take-fold-start : tie.Need-part-take-fold-start Inv-loop μ-loop
-part-take-fold-start c = search needs
-
 part-take-fold-end : tie.Need-part-take-fold-end Inv-loop μ-loop
 part-take-fold-end c = omega (arith, row-le _ (c .loop-test .taken))
 
@@ -45,12 +39,6 @@ add-take-fold-2 c = omega (arith, row-le _ (c .before .loop-test .taken))
 
 mul-take-fold-2 : tie.Need-mul-take-fold-2 Inv-loop μ-loop
 mul-take-fold-2 c = omega (arith, row-le _ (c .before .loop-test .taken))
-
-sub-take-fold-2 : tie.Need-sub-take-fold-2 Inv-loop μ-loop
-sub-take-fold-2 c = search needs
-
-part-take-fold-start-2 : tie.Need-part-take-fold-start-2 Inv-loop μ-loop
-part-take-fold-start-2 c = search needs
 
 part-take-fold-end-2 : tie.Need-part-take-fold-end-2 Inv-loop μ-loop
 part-take-fold-end-2 c = omega (arith, row-le _ (c .before .loop-test .taken))
@@ -64,12 +52,6 @@ take-fold-requires c κs =
     let r = row-le (c6 .args .n) h in
     (h, (part-length _ at (c3 .loop .half) (omega (arith, c3 .loop .inv .long)), part-length _ at (c6 .args .folds .now) (omega (arith, c6 .pre))))
 
-add-u : tie.Need-add-u Inv-loop μ-loop
-add-u c = search needs
-
-loop-less : tie.Need-loop-less Inv-loop μ-loop
-loop-less c = search needs
-
 loop-again : tie.Need-loop-again Inv-loop μ-loop
 loop-again c =
     let c5 = c .before .before .before .before .before in
@@ -79,9 +61,6 @@ loop-again c =
     (written-part _ _ _ (c .before .before .take-fold .ensures
     ∙ rw (rowed-read (c6 .loop .inv)) (joined-lent false (c9 .args .n) (c6 .loop .u) (c9 .args .half .now) (c9 .args .folds .now))))
 
-same-length : tie.Need-same-length Inv-loop μ-loop
-same-length c = search needs
-
 returns : tie.Need-returns Inv-loop μ-loop
 returns c = rowed-all (c .before .loop .inv) (c .loop-test .left)
 
@@ -89,23 +68,5 @@ pub fold-over-spec : {M : Type 1} → statement M
 fold-over-spec =
     tie.close
     (tie.spec
-    Inv-loop
-    μ-loop
-    loop-holds
-    mul-at
-    add-take-fold
-    mul-take-fold
-    sub-take-fold
-    part-take-fold-start
-    part-take-fold-end
-    add-take-fold-2
-    mul-take-fold-2
-    sub-take-fold-2
-    part-take-fold-start-2
-    part-take-fold-end-2
-    take-fold-requires
-    add-u
-    loop-less
-    loop-again
-    same-length
-    returns)
+    Inv-loop μ-loop loop-holds mul-at add-take-fold mul-take-fold (search needs) (search needs) part-take-fold-end add-take-fold-2 mul-take-fold-2
+    (search needs) (search needs) part-take-fold-end-2 take-fold-requires (search needs) (search needs) loop-again (search needs) returns)

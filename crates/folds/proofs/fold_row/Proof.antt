@@ -9,18 +9,9 @@ use borrow.Author.Needs.{needs}
 use Rattle.folds.proofs.fold_row.Statement.{statement}
 use Rattle.folds.proofs.fold_row.Tie as tie
 
-zero-over-requires : tie.Need-zero-over-requires
-zero-over-requires c κs = search needs
-
-same-length : tie.Need-same-length
-same-length c = search needs
-
 returns : tie.Need-returns
 returns c = let c7 = c .before .before .before .before .before .before .before in fold-empty (c7 .args .late) (c7 .args .n) (c7 .args .later .now)
     (c .before .before .before .before .if1 .taken) (c .before .before .zero-over .ensures)
-
-board-in-requires : tie.Need-board-in-requires
-board-in-requires c κs = search needs
 
 mul-at : tie.Need-mul-at
 mul-at c = omega (arith, row-le _ (bit-below _ (c .before .before .before .before .pre .1 .0) (c .board-in .ensures .1)))
@@ -31,29 +22,14 @@ add-copy-over c = omega (arith, row-le _ (bit-below _ (c .before .before .before
 mul-copy-over : tie.Need-mul-copy-over
 mul-copy-over c = omega (arith, row-le _ (bit-below _ (c .before .before .before .before .before .pre .1 .0) (c .before .board-in .ensures .1)))
 
-sub-copy-over : tie.Need-sub-copy-over
-sub-copy-over c = search needs
-
-part-copy-over-start : tie.Need-part-copy-over-start
-part-copy-over-start c = search needs
-
 part-copy-over-end : tie.Need-part-copy-over-end
 part-copy-over-end c = omega (arith, row-le _ (bit-below _ (c .before .before .before .before .before .pre .1 .0) (c .before .board-in .ensures .1)))
-
-copy-over-requires : tie.Need-copy-over-requires
-copy-over-requires c κs = search needs
-
-cleared-requires : tie.Need-cleared-requires
-cleared-requires c κs = search needs
 
 fold-set-requires : tie.Need-fold-set-requires
 fold-set-requires c κs =
     let c4 = c .before .before .before .before in
     let p = c4 .before .before .before .before .before .before .before .pre in
     (p .0, (rw (c .cleared .ensures) (without-lt _ _ _ (p .1 .0)), (p .1 .1 .0 ∙ sym (c4 .copy-over .kept .0), p .1 .1 .1)))
-
-same-length-2 : tie.Need-same-length-2
-same-length-2 c = search needs
 
 returns-2 : tie.Need-returns-2
 returns-2 c =
@@ -68,18 +44,5 @@ pub fold-row-spec : {M : Type 1} → statement M
 fold-row-spec =
     tie.close
     (tie.spec
-    zero-over-requires
-    same-length
-    returns
-    board-in-requires
-    mul-at
-    add-copy-over
-    mul-copy-over
-    sub-copy-over
-    part-copy-over-start
-    part-copy-over-end
-    copy-over-requires
-    cleared-requires
-    fold-set-requires
-    same-length-2
-    returns-2)
+    (search needs) (search needs) returns (search needs) mul-at add-copy-over mul-copy-over (search needs) (search needs) part-copy-over-end
+    (search needs) (search needs) fold-set-requires (search needs) returns-2)

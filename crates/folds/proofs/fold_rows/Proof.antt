@@ -22,33 +22,14 @@ write-fold-requires c κs =
     let p = c .before .before .before .before .before .before .pre in
     shared (p .0) (p .1 .0) (p .1 .1 .1 .0) (p .1 .1 .1 .1) (c .before .loop-test .taken) (c .before .before .loop .inv)
 
-add-u : tie.Need-add-u Inv-loop μ-loop
-add-u c = search needs
-
-loop-less : tie.Need-loop-less Inv-loop μ-loop
-loop-less c = search needs
-
 loop-again : tie.Need-loop-again Inv-loop μ-loop
 loop-again c =
     let l = c .before .before .before .before in
     rowed-turn (l .before .loop .inv) (l .loop-test .taken) (c .before .before .write-fold .ensures)
-
-same-length : tie.Need-same-length Inv-loop μ-loop
-same-length c = search needs
 
 returns : tie.Need-returns Inv-loop μ-loop
 returns c = rowed-all (c .before .loop .inv) (c .loop-test .left)
 
 pub fold-rows-spec : {M : Type 1} → statement M
 fold-rows-spec =
-    tie.close
-    (tie.spec
-    Inv-loop
-    μ-loop
-    loop-holds
-    write-fold-requires
-    add-u
-    loop-less
-    loop-again
-    same-length
-    returns)
+    tie.close (tie.spec Inv-loop μ-loop loop-holds write-fold-requires (search needs) (search needs) loop-again (search needs) returns)

@@ -17,9 +17,6 @@ abbrev μ-loop : tie.MeasureT-loop
 loop-holds : tie.Need-loop-holds Inv-loop μ-loop
 loop-holds c = folded-start (c .before .before .pre .1 .1 .0) (c .before .before .pre .1 .0)
 
-board-in-requires : tie.Need-board-in-requires Inv-loop μ-loop
-board-in-requires c κs = search needs
-
 mul-at : tie.Need-mul-at Inv-loop μ-loop
 mul-at c = omega (arith, row-le _ (folded-below (c .before .before .loop .inv) _ (c .board-in .ensures .1)))
 
@@ -29,12 +26,6 @@ add-fold c = omega (arith, row-le _ (folded-below (c .before .before .before .lo
 mul-fold : tie.Need-mul-fold Inv-loop μ-loop
 mul-fold c = omega (arith, row-le _ (folded-below (c .before .before .before .loop .inv) _ (c .before .board-in .ensures .1)))
 
-sub-fold : tie.Need-sub-fold Inv-loop μ-loop
-sub-fold c = search needs
-
-part-fold-start : tie.Need-part-fold-start Inv-loop μ-loop
-part-fold-start c = search needs
-
 part-fold-end : tie.Need-part-fold-end Inv-loop μ-loop
 part-fold-end c = omega (arith, row-le _ (folded-below (c .before .before .before .loop .inv) _ (c .before .board-in .ensures .1)))
 
@@ -42,9 +33,6 @@ fold-requires : tie.Need-fold-requires Inv-loop μ-loop
 fold-requires c κs =
     let c4 = c .before .before .before .before in
     (c4 .loop .inv .size, part-length _ _ _ (omega (arith, row-le _ (folded-below (c4 .loop .inv) _ (c .before .before .board-in .ensures .1)))))
-
-cleared-requires : tie.Need-cleared-requires Inv-loop μ-loop
-cleared-requires c κs = search needs
 
 loop-less : tie.Need-loop-less Inv-loop μ-loop
 loop-less c =
@@ -68,19 +56,5 @@ pub fold-set-spec : {M : Type 1} → statement M
 fold-set-spec =
     tie.close
     (tie.spec
-    Inv-loop
-    μ-loop
-    loop-holds
-    board-in-requires
-    mul-at
-    add-fold
-    mul-fold
-    sub-fold
-    part-fold-start
-    part-fold-end
-    fold-requires
-    cleared-requires
-    loop-less
-    loop-again
-    same-length
-    returns)
+    Inv-loop μ-loop loop-holds (search needs) mul-at add-fold mul-fold (search needs) (search needs) part-fold-end fold-requires (search needs) loop-less
+    loop-again same-length returns)

@@ -20,17 +20,8 @@ add-copy-over c = let p = c .before .before .before .before .before .pre in omeg
 mul-copy-over : tie.Need-mul-copy-over
 mul-copy-over c = let p = c .before .before .before .before .before .pre in omega (arith, row-le _ (p .1 .0), p .1 .1 .1)
 
-sub-copy-over : tie.Need-sub-copy-over
-sub-copy-over c = search needs
-
-part-copy-over-start : tie.Need-part-copy-over-start
-part-copy-over-start c = search needs
-
 part-copy-over-end : tie.Need-part-copy-over-end
 part-copy-over-end c = let p = c .before .before .before .before .before .before .pre in omega (arith, row-le _ (p .1 .0), p .1 .1 .1)
-
-copy-over-requires : tie.Need-copy-over-requires
-copy-over-requires c κs = search needs
 
 add-copy-over-2 : tie.Need-add-copy-over-2
 add-copy-over-2 c = let p = c .before .before .before .before .before .before .before .before .before .before .pre in omega (arith, row-le _ (p .0), p .1 .1 .1)
@@ -38,25 +29,10 @@ add-copy-over-2 c = let p = c .before .before .before .before .before .before .b
 mul-copy-over-2 : tie.Need-mul-copy-over-2
 mul-copy-over-2 c = let p = c .before .before .before .before .before .before .before .before .before .before .pre in omega (arith, row-le _ (p .0), p .1 .1 .1)
 
-sub-copy-over-2 : tie.Need-sub-copy-over-2
-sub-copy-over-2 c = search needs
-
-part-copy-over-start-2 : tie.Need-part-copy-over-start-2
-part-copy-over-start-2 c = search needs
-
 part-copy-over-end-2 : tie.Need-part-copy-over-end-2
 part-copy-over-end-2 c =
     let p = c .before .before .before .before .before .before .before .before .before .before .pre in
     omega (arith, row-le _ (p .0), p .1 .1 .1)
-
-copy-over-requires-2 : tie.Need-copy-over-requires-2
-copy-over-requires-2 c κs = search needs
-
-same-length : tie.Need-same-length
-same-length c = search needs
-
-same-length-2 : tie.Need-same-length-2
-same-length-2 c = search needs
 
 returns : tie.Need-returns
 returns c =
@@ -67,20 +43,5 @@ pub share-by-spec : {M : Type 1} → statement M
 share-by-spec =
     tie.close
     (tie.spec
-    mul-from
-    mul-at
-    add-copy-over
-    mul-copy-over
-    sub-copy-over
-    part-copy-over-start
-    part-copy-over-end
-    copy-over-requires
-    add-copy-over-2
-    mul-copy-over-2
-    sub-copy-over-2
-    part-copy-over-start-2
-    part-copy-over-end-2
-    copy-over-requires-2
-    same-length
-    same-length-2
-    returns)
+    mul-from mul-at add-copy-over mul-copy-over (search needs) (search needs) part-copy-over-end (search needs) add-copy-over-2 mul-copy-over-2
+    (search needs) (search needs) part-copy-over-end-2 (search needs) (search needs) (search needs) returns)

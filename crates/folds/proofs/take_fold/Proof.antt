@@ -8,15 +8,6 @@ use borrow.Author.Needs.{needs}
 use Rattle.folds.proofs.take_fold.Statement.{statement}
 use Rattle.folds.proofs.take_fold.Tie as tie
 
-fold-sooner-requires : tie.Need-fold-sooner-requires
-fold-sooner-requires c κs = search needs
-
-mul-row : tie.Need-mul-row
-mul-row c = search needs
-
-slice-write-row : tie.Need-slice-write-row
-slice-write-row c = search needs
-
 same-length : tie.Need-same-length
 same-length c = search needs
 
@@ -28,4 +19,4 @@ returns c =
 
 pub take-fold-spec : {M : Type 1} → statement M
 take-fold-spec =
-    tie.close (tie.spec fold-sooner-requires mul-row slice-write-row same-length returns)
+    tie.close (tie.spec (search needs) (search needs) (search needs) same-length returns)

@@ -5,12 +5,6 @@ use borrow.Author.Needs.{needs}
 use Rattle.folds.proofs.the_sooner.Statement.{statement}
 use Rattle.folds.proofs.the_sooner.Tie as tie
 
-wrapping-sub-u32-requires : tie.Need-wrapping-sub-u32-requires
-wrapping-sub-u32-requires c κs = search needs
-
-wrapping-sub-u32-requires-2 : tie.Need-wrapping-sub-u32-requires-2
-wrapping-sub-u32-requires-2 c κs = search needs
-
 returns : tie.Need-returns
 returns c = sooner-first _ _ _ _ (search needs) (search needs) (c .before .before .wrapping-sub-u32 .ensures) (c .before .wrapping-sub-u322 .ensures)
     (c .if1 .taken)
@@ -20,4 +14,5 @@ returns-2 c = sooner-second _ _ _ _ (search needs) (search needs) (c .before .be
     (c .if1 .left)
 
 pub the-sooner-spec : {M : Type 1} → statement M
-the-sooner-spec = tie.close (tie.spec wrapping-sub-u32-requires wrapping-sub-u32-requires-2 returns returns-2)
+the-sooner-spec =
+    tie.close (tie.spec (search needs) (search needs) returns returns-2)

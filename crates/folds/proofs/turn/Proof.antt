@@ -27,31 +27,13 @@ add-turn-row c = omega (arith, row-le _ (c .loop-test .taken))
 mul-turn-row : tie.Need-mul-turn-row Inv-loop μ-loop
 mul-turn-row c = omega (arith, row-le _ (c .loop-test .taken))
 
-sub-turn-row : tie.Need-sub-turn-row Inv-loop μ-loop
-sub-turn-row c = search needs
-
-part-turn-row-start : tie.Need-part-turn-row-start Inv-loop μ-loop
-part-turn-row-start c = search needs
-
 part-turn-row-end : tie.Need-part-turn-row-end Inv-loop μ-loop
 part-turn-row-end c = omega (arith, row-le _ (c .loop-test .taken))
-
-turn-row-requires : tie.Need-turn-row-requires Inv-loop μ-loop
-turn-row-requires c κs = search needs
-
-add-u : tie.Need-add-u Inv-loop μ-loop
-add-u c = search needs
-
-loop-less : tie.Need-loop-less Inv-loop μ-loop
-loop-less c = search needs
 
 loop-again : tie.Need-loop-again Inv-loop μ-loop
 loop-again c =
     let l = c .before .before .before .before in
     rowed-turn (l .before .loop .inv) (l .loop-test .taken) (written-part _ _ _ (c .before .before .turn-row .ensures))
-
-same-length : tie.Need-same-length Inv-loop μ-loop
-same-length c = search needs
 
 returns : tie.Need-returns Inv-loop μ-loop
 returns c = rowed-all (c .before .loop .inv) (c .loop-test .left)
@@ -60,18 +42,5 @@ pub turn-spec : {M : Type 1} → statement M
 turn-spec =
     tie.close
     (tie.spec
-    Inv-loop
-    μ-loop
-    loop-holds
-    mul-at
-    add-turn-row
-    mul-turn-row
-    sub-turn-row
-    part-turn-row-start
-    part-turn-row-end
-    turn-row-requires
-    add-u
-    loop-less
-    loop-again
-    same-length
-    returns)
+    Inv-loop μ-loop loop-holds mul-at add-turn-row mul-turn-row (search needs) (search needs) part-turn-row-end (search needs) (search needs)
+    (search needs) loop-again (search needs) returns)

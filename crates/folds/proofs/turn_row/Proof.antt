@@ -31,23 +31,8 @@ mul-out-2 c = omega (arith, row-le _ (c .loop-test .taken))
 shared-slice-read-out : tie.Need-shared-slice-read-out Inv-loop μ-loop
 shared-slice-read-out c = omega (arith, row-le _ (c .before .loop-test .taken))
 
-mul-out-3 : tie.Need-mul-out-3 Inv-loop μ-loop
-mul-out-3 c = search needs
-
-slice-write-out : tie.Need-slice-write-out Inv-loop μ-loop
-slice-write-out c = search needs
-
-add-v : tie.Need-add-v Inv-loop μ-loop
-add-v c = search needs
-
-loop-less : tie.Need-loop-less Inv-loop μ-loop
-loop-less c = search needs
-
 loop-again : tie.Need-loop-again Inv-loop μ-loop
 loop-again c = made-turn (c .before .before .loop .inv) (c .before .loop-test .taken) refl
-
-same-length : tie.Need-same-length Inv-loop μ-loop
-same-length c = search needs
 
 returns : tie.Need-returns Inv-loop μ-loop
 returns c = made-all (c .before .loop .inv) (c .loop-test .left)
@@ -56,17 +41,5 @@ pub turn-row-spec : {M : Type 1} → statement M
 turn-row-spec =
     tie.close
     (tie.spec
-    Inv-loop
-    μ-loop
-    loop-holds
-    mul-out
-    add-out
-    mul-out-2
-    shared-slice-read-out
-    mul-out-3
-    slice-write-out
-    add-v
-    loop-less
-    loop-again
-    same-length
-    returns)
+    Inv-loop μ-loop loop-holds mul-out add-out mul-out-2 shared-slice-read-out (search needs) (search needs) (search needs) (search needs) loop-again
+    (search needs) returns)

@@ -12,15 +12,6 @@ use borrow.Author.Needs.{needs}
 use Rattle.folds.proofs.write_fold.Statement.{statement}
 use Rattle.folds.proofs.write_fold.Tie as tie
 
-first-same-requires : tie.Need-first-same-requires
-first-same-requires c κs = search needs
-
-share-requires : tie.Need-share-requires
-share-requires c κs = search needs
-
-same-length : tie.Need-same-length
-same-length c = search needs
-
 returns : tie.Need-returns
 returns c =
     let c5 = c .before .before .before .before .before in
@@ -39,26 +30,8 @@ add-fold-row c = let p = c .before .before .before .before .before .pre in omega
 mul-fold-row : tie.Need-mul-fold-row
 mul-fold-row c = let p = c .before .before .before .before .before .pre in omega (arith, row-le _ (p .below), p .room)
 
-sub-fold-row : tie.Need-sub-fold-row
-sub-fold-row c = search needs
-
-part-fold-row-start : tie.Need-part-fold-row-start
-part-fold-row-start c = search needs
-
 part-fold-row-end : tie.Need-part-fold-row-end
 part-fold-row-end c = let p = c .before .before .before .before .before .pre in omega (arith, row-le _ (p .below), p .room)
-
-mul-fold-row-2 : tie.Need-mul-fold-row-2
-mul-fold-row-2 c = search needs
-
-shared-slice-read-fold-row : tie.Need-shared-slice-read-fold-row
-shared-slice-read-fold-row c = search needs
-
-fold-row-requires : tie.Need-fold-row-requires
-fold-row-requires c κs = search needs
-
-same-length-2 : tie.Need-same-length-2
-same-length-2 c = search needs
 
 returns-2 : tie.Need-returns-2
 returns-2 c = written-part _ _ _ (c .before .before .fold-row .ensures)
@@ -67,18 +40,5 @@ pub write-fold-spec : {M : Type 1} → statement M
 write-fold-spec =
     tie.close
     (tie.spec
-    first-same-requires
-    share-requires
-    same-length
-    returns
-    mul-at
-    add-fold-row
-    mul-fold-row
-    sub-fold-row
-    part-fold-row-start
-    part-fold-row-end
-    mul-fold-row-2
-    shared-slice-read-fold-row
-    fold-row-requires
-    same-length-2
-    returns-2)
+    (search needs) (search needs) (search needs) returns mul-at add-fold-row mul-fold-row (search needs) (search needs) part-fold-row-end (search needs)
+    (search needs) (search needs) (search needs) returns-2)

@@ -9,21 +9,6 @@ use borrow.Author.Needs.{needs}
 use Rattle.joins.proofs.closed_words.Statement.{statement}
 use Rattle.joins.proofs.closed_words.Tie as tie
 
-load-requires : tie.Need-load-requires
-load-requires c κs = search needs
-
-sub-close : tie.Need-sub-close
-sub-close c = search needs
-
-part-t-start : tie.Need-part-t-start
-part-t-start c = search needs
-
-part-t-end : tie.Need-part-t-end
-part-t-end c = search needs
-
-close-requires : tie.Need-close-requires
-close-requires c κs = search needs
-
 returns : tie.Need-returns
 returns c =
     let start = c .before .before .before .before .before in
@@ -34,4 +19,4 @@ returns c =
 
 pub closed-words-spec : {M : Type 1} → statement M
 closed-words-spec =
-    tie.close (tie.spec load-requires sub-close part-t-start part-t-end close-requires returns)
+    tie.close (tie.spec (search needs) (search needs) (search needs) (search needs) (search needs) returns)

@@ -13,24 +13,12 @@ returns : tie.Need-returns
 unfolding rowOf
 returns c = simp (eq-eqb _ _ (c .if1 .taken))
 
-width-requires : tie.Need-width-requires
-width-requires c κs = search needs
-
 mul-if2 : tie.Need-mul-if2
 mul-if2 c = let s = c .before .before .before in omega (arith, c .width .ensures, width-most (s .args .measure) (s .args .n) (s .pre))
 
 returns-2 : tie.Need-returns-2
 unfolding rowOf
 returns-2 c = let w = c .before in simp (ne-eqb _ _ (w .before .if1 .left), lt-ltb _ _ (rw (w .width .ensures) at (c .if2 .taken)))
-
-no-area-requires : tie.Need-no-area-requires
-no-area-requires c κs = search needs
-
-slice-aggregate-whole : tie.Need-slice-aggregate-whole
-slice-aggregate-whole c = search needs
-
-whole-requires : tie.Need-whole-requires
-whole-requires c κs = search needs
 
 returns-3 : tie.Need-returns-3
 unfolding rowOf
@@ -42,13 +30,4 @@ returns-3 c = let b = c .before in
 
 pub answer-of-spec : {M : Type 1} → statement M
 answer-of-spec =
-    tie.close
-    (tie.spec
-    returns
-    width-requires
-    mul-if2
-    returns-2
-    no-area-requires
-    slice-aggregate-whole
-    whole-requires
-    returns-3)
+    tie.close (tie.spec returns (search needs) mul-if2 returns-2 (search needs) (search needs) (search needs) returns-3)

@@ -9,34 +9,10 @@ use borrow.Author.Needs.{needs}
 use Rattle.lengths_text.proofs.put_lengths.Statement.{statement}
 use Rattle.lengths_text.proofs.put_lengths.Tie as tie
 
-no-words-requires : tie.Need-no-words-requires
-no-words-requires c κs = search needs
-
-slice-aggregate-put-text : tie.Need-slice-aggregate-put-text
-slice-aggregate-put-text c = search needs
-
-put-text-requires : tie.Need-put-text-requires
-put-text-requires c κs = search needs
-
-slice-aggregate-read : tie.Need-slice-aggregate-read
-slice-aggregate-read c = search needs
-
-read-requires : tie.Need-read-requires
-read-requires c κs = search needs
-
-enum-known-boards : tie.Need-enum-known-boards
-enum-known-boards c = search needs
-
 mul-total : tie.Need-mul-total
 mul-total c = let b = c .before in
     let g = read-law _ _ _ _ _ (sym (b .before .before .before .read .ensures .0) ∙ ap readingSays (b .boards .given .1)) in
     omega (arith, g .room-for, g .long, b .before .before .before .before .before .before .before .before .before .before .no-words .ensures .1)
-
-sub-put-measures : tie.Need-sub-put-measures
-sub-put-measures c = search needs
-
-part-put-measures-start : tie.Need-part-put-measures-start
-part-put-measures-start c = search needs
 
 part-put-measures-end : tie.Need-part-put-measures-end
 part-put-measures-end c = let b = c .before .before .before in
@@ -48,18 +24,6 @@ put-measures-requires c κs = let b = c .before .before .before .before in
     let g = read-law _ _ _ _ _ (sym (b .before .before .before .read .ensures .0) ∙ ap readingSays (b .boards .given .1)) in
     let t = b .before .before .before .before .before .before .before in
     (g .high, omega (arith, t .put-text .ensures .behind, t .put-text .kept .0, t .before .before .before .before .before .before .pre))
-
-enum-known-r : tie.Need-enum-known-r
-enum-known-r c = search needs
-
-number-of-requires : tie.Need-number-of-requires
-number-of-requires c κs = search needs
-
-put-line-requires : tie.Need-put-line-requires
-put-line-requires c κs = search needs
-
-same-length : tie.Need-same-length
-same-length c = search needs
 
 returns : tie.Need-returns
 returns c = let m = c .before .before in
@@ -73,9 +37,6 @@ returns c = let m = c .before .before in
       z .0 ∙ of-read _ _ (w .no-words .ensures .0) _ _ _ (sym (r .read .ensures .0) ∙ ap readingSays (b .boards .given .1)) (r .read .ensures .1),
       z .1,
     )
-
-same-length-2 : tie.Need-same-length-2
-same-length-2 c = search needs
 
 returns-2 : tie.Need-returns-2
 returns-2 c = let l = c .before .before in
@@ -95,21 +56,5 @@ pub put-lengths-spec : {M : Type 1} → statement M
 put-lengths-spec =
     tie.close
     (tie.spec
-    no-words-requires
-    slice-aggregate-put-text
-    put-text-requires
-    slice-aggregate-read
-    read-requires
-    enum-known-boards
-    mul-total
-    sub-put-measures
-    part-put-measures-start
-    part-put-measures-end
-    put-measures-requires
-    enum-known-r
-    number-of-requires
-    put-line-requires
-    same-length
-    returns
-    same-length-2
-    returns-2)
+    (search needs) (search needs) (search needs) (search needs) (search needs) (search needs) mul-total (search needs) (search needs)
+    part-put-measures-end put-measures-requires (search needs) (search needs) (search needs) (search needs) returns (search needs) returns-2)

@@ -7,15 +7,10 @@ use borrow.Author.Needs.{needs}
 use Rattle.links.proofs.cleared.Statement.{statement}
 use Rattle.links.proofs.cleared.Tie as tie
 
-cast-result : tie.Need-cast-result
-cast-result c = search needs
-
-shl-result : tie.Need-shl-result
-shl-result c = search needs
-
 returns : tie.Need-returns
 unfolding without
 returns c = simp (one-mul, mod-eq-of-lt (pow-lt {j = 32} (c .pre)))
 
 pub cleared-spec : {M : Type 1} → statement M
-cleared-spec = tie.close (tie.spec cast-result shl-result returns)
+cleared-spec =
+    tie.close (tie.spec (search needs) (search needs) returns)

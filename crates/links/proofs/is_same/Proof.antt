@@ -21,24 +21,6 @@ abbrev μ-loop : tie.MeasureT-loop
 loop-holds : tie.Need-loop-holds Inv-loop μ-loop
 loop-holds c = (search needs, sym (every-none _))
 
-mul-bad : tie.Need-mul-bad Inv-loop μ-loop
-mul-bad c = search needs
-
-shared-slice-read-bad : tie.Need-shared-slice-read-bad Inv-loop μ-loop
-shared-slice-read-bad c = search needs
-
-mul-bad-2 : tie.Need-mul-bad-2 Inv-loop μ-loop
-mul-bad-2 c = search needs
-
-shared-slice-read-bad-2 : tie.Need-shared-slice-read-bad-2 Inv-loop μ-loop
-shared-slice-read-bad-2 c = search needs
-
-add-u : tie.Need-add-u Inv-loop μ-loop
-add-u c = search needs
-
-loop-less : tie.Need-loop-less Inv-loop μ-loop
-loop-less c = search needs
-
 loop-again : tie.Need-loop-again Inv-loop μ-loop
 loop-again c = (search needs, gather-same _ _ _ (c .before .before .before .loop .bad) _ (c .before .before .before .loop .inv .1) refl)
 
@@ -48,16 +30,4 @@ returns c = let e : c .before .loop .u ≡ c .before .before .args .n = omega ar
 
 pub is-same-spec : {M : Type 1} → statement M
 is-same-spec =
-    tie.close
-    (tie.spec
-    Inv-loop
-    μ-loop
-    loop-holds
-    mul-bad
-    shared-slice-read-bad
-    mul-bad-2
-    shared-slice-read-bad-2
-    add-u
-    loop-less
-    loop-again
-    returns)
+    tie.close (tie.spec Inv-loop μ-loop loop-holds (search needs) (search needs) (search needs) (search needs) (search needs) (search needs) loop-again returns)

@@ -21,30 +21,6 @@ abbrev μ-loop : tie.MeasureT-loop
 loop-holds : tie.Need-loop-holds Inv-loop μ-loop
 loop-holds c = (search needs, sym (every-none _))
 
-mul-bad : tie.Need-mul-bad Inv-loop μ-loop
-mul-bad c = search needs
-
-shared-slice-read-bad : tie.Need-shared-slice-read-bad Inv-loop μ-loop
-shared-slice-read-bad c = search needs
-
-mul-bad-2 : tie.Need-mul-bad-2 Inv-loop μ-loop
-mul-bad-2 c = search needs
-
-shared-slice-read-bad-2 : tie.Need-shared-slice-read-bad-2 Inv-loop μ-loop
-shared-slice-read-bad-2 c = search needs
-
-mul-bad-3 : tie.Need-mul-bad-3 Inv-loop μ-loop
-mul-bad-3 c = search needs
-
-shared-slice-read-bad-3 : tie.Need-shared-slice-read-bad-3 Inv-loop μ-loop
-shared-slice-read-bad-3 c = search needs
-
-add-u : tie.Need-add-u Inv-loop μ-loop
-add-u c = search needs
-
-loop-less : tie.Need-loop-less Inv-loop μ-loop
-loop-less c = search needs
-
 loop-again : tie.Need-loop-again Inv-loop μ-loop
 unfolding union eitherRow
 loop-again c =
@@ -60,16 +36,5 @@ pub is-union-spec : {M : Type 1} → statement M
 is-union-spec =
     tie.close
     (tie.spec
-    Inv-loop
-    μ-loop
-    loop-holds
-    mul-bad
-    shared-slice-read-bad
-    mul-bad-2
-    shared-slice-read-bad-2
-    mul-bad-3
-    shared-slice-read-bad-3
-    add-u
-    loop-less
-    loop-again
-    returns)
+    Inv-loop μ-loop loop-holds (search needs) (search needs) (search needs) (search needs) (search needs) (search needs) (search needs) (search needs)
+    loop-again returns)

@@ -17,36 +17,9 @@ abbrev μ-loop : tie.MeasureT-loop
 loop-holds : tie.Need-loop-holds Inv-loop μ-loop
 loop-holds c = made-start (c .pre .0)
 
-mul-out : tie.Need-mul-out Inv-loop μ-loop
-mul-out c = search needs
-
-shared-slice-read-out : tie.Need-shared-slice-read-out Inv-loop μ-loop
-shared-slice-read-out c = search needs
-
-mul-out-2 : tie.Need-mul-out-2 Inv-loop μ-loop
-mul-out-2 c = search needs
-
-shared-slice-read-out-2 : tie.Need-shared-slice-read-out-2 Inv-loop μ-loop
-shared-slice-read-out-2 c = search needs
-
-mul-out-3 : tie.Need-mul-out-3 Inv-loop μ-loop
-mul-out-3 c = search needs
-
-slice-write-out : tie.Need-slice-write-out Inv-loop μ-loop
-slice-write-out c = search needs
-
-add-u : tie.Need-add-u Inv-loop μ-loop
-add-u c = search needs
-
-loop-less : tie.Need-loop-less Inv-loop μ-loop
-loop-less c = search needs
-
 loop-again : tie.Need-loop-again Inv-loop μ-loop
 unfolding eitherRow
 loop-again c = made-turn (c .before .before .before .loop .inv) (c .before .before .loop-test .taken) refl
-
-same-length : tie.Need-same-length Inv-loop μ-loop
-same-length c = search needs
 
 returns : tie.Need-returns Inv-loop μ-loop
 unfolding union
@@ -56,17 +29,5 @@ pub unite-spec : {M : Type 1} → statement M
 unite-spec =
     tie.close
     (tie.spec
-    Inv-loop
-    μ-loop
-    loop-holds
-    mul-out
-    shared-slice-read-out
-    mul-out-2
-    shared-slice-read-out-2
-    mul-out-3
-    slice-write-out
-    add-u
-    loop-less
-    loop-again
-    same-length
-    returns)
+    Inv-loop μ-loop loop-holds (search needs) (search needs) (search needs) (search needs) (search needs) (search needs) (search needs) (search needs)
+    loop-again (search needs) returns)

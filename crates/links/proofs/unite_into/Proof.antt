@@ -16,38 +16,11 @@ abbrev μ-loop : tie.MeasureT-loop
 loop-holds : tie.Need-loop-holds Inv-loop μ-loop
 loop-holds c = made-start (c .pre .0)
 
-mul-t : tie.Need-mul-t Inv-loop μ-loop
-mul-t c = search needs
-
-slice-read-t : tie.Need-slice-read-t Inv-loop μ-loop
-slice-read-t c = search needs
-
-mul-t-2 : tie.Need-mul-t-2 Inv-loop μ-loop
-mul-t-2 c = search needs
-
-shared-slice-read-t : tie.Need-shared-slice-read-t Inv-loop μ-loop
-shared-slice-read-t c = search needs
-
-mul-t-3 : tie.Need-mul-t-3 Inv-loop μ-loop
-mul-t-3 c = search needs
-
-slice-write-t : tie.Need-slice-write-t Inv-loop μ-loop
-slice-write-t c = search needs
-
-add-u : tie.Need-add-u Inv-loop μ-loop
-add-u c = search needs
-
-loop-less : tie.Need-loop-less Inv-loop μ-loop
-loop-less c = search needs
-
 loop-again : tie.Need-loop-again Inv-loop μ-loop
 unfolding eitherRow
 loop-again c =
     let c3 = c .before .before .before in
     made-turn (c3 .loop .inv) (c .before .before .loop-test .taken) (simp (made-read (c3 .loop .inv) (c .before .before .loop-test .taken)))
-
-same-length : tie.Need-same-length Inv-loop μ-loop
-same-length c = search needs
 
 returns : tie.Need-returns Inv-loop μ-loop
 unfolding union
@@ -57,17 +30,5 @@ pub unite-into-spec : {M : Type 1} → statement M
 unite-into-spec =
     tie.close
     (tie.spec
-    Inv-loop
-    μ-loop
-    loop-holds
-    mul-t
-    slice-read-t
-    mul-t-2
-    shared-slice-read-t
-    mul-t-3
-    slice-write-t
-    add-u
-    loop-less
-    loop-again
-    same-length
-    returns)
+    Inv-loop μ-loop loop-holds (search needs) (search needs) (search needs) (search needs) (search needs) (search needs) (search needs) (search needs)
+    loop-again (search needs) returns)

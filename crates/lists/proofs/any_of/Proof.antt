@@ -20,18 +20,6 @@ loop-holds : tie.Need-loop-holds Inv-loop μ-loop
 unfolding anyOf
 loop-holds c = search needs
 
-mul-any : tie.Need-mul-any Inv-loop μ-loop
-mul-any c = search needs
-
-shared-slice-read-any : tie.Need-shared-slice-read-any Inv-loop μ-loop
-shared-slice-read-any c = search needs
-
-add-i : tie.Need-add-i Inv-loop μ-loop
-add-i c = search needs
-
-loop-less : tie.Need-loop-less Inv-loop μ-loop
-loop-less c = search needs
-
 loop-again : tie.Need-loop-again Inv-loop μ-loop
 unfolding anyOf
 loop-again c = (search needs, rw (add-one (c .before .before .loop .i), c .before .before .loop .inv .1))
@@ -41,14 +29,4 @@ returns c = let e : c .before .loop .i ≡ c .before .before .args .n = omega ar
 
 pub any-of-spec : {M : Type 1} → statement M
 any-of-spec =
-    tie.close
-    (tie.spec
-    Inv-loop
-    μ-loop
-    loop-holds
-    mul-any
-    shared-slice-read-any
-    add-i
-    loop-less
-    loop-again
-    returns)
+    tie.close (tie.spec Inv-loop μ-loop loop-holds (search needs) (search needs) (search needs) (search needs) loop-again returns)

@@ -17,29 +17,8 @@ Inv-loop xs n out₀ u₀ out u = (n ≡ length xs) × ((out₀ ≡ zeros 32) ×
 abbrev μ-loop : tie.MeasureT-loop
 μ-loop xs n out₀ u₀ out u = n - u
 
-no-words-requires : tie.Need-no-words-requires Inv-loop μ-loop
-no-words-requires c κs = search needs
-
 loop-holds : tie.Need-loop-holds Inv-loop μ-loop
 loop-holds c = (search needs, (c .no-words .ensures, copied-start (omega (arith, ap length (c .no-words .ensures) ∙ length-zeros 32))))
-
-mul-out : tie.Need-mul-out Inv-loop μ-loop
-mul-out c = search needs
-
-shared-slice-read-out : tie.Need-shared-slice-read-out Inv-loop μ-loop
-shared-slice-read-out c = search needs
-
-mul-out-2 : tie.Need-mul-out-2 Inv-loop μ-loop
-mul-out-2 c = search needs
-
-array-write-out : tie.Need-array-write-out Inv-loop μ-loop
-array-write-out c = search needs
-
-add-u : tie.Need-add-u Inv-loop μ-loop
-add-u c = search needs
-
-loop-less : tie.Need-loop-less Inv-loop μ-loop
-loop-less c = search needs
 
 loop-again : tie.Need-loop-again Inv-loop μ-loop
 loop-again c =
@@ -55,15 +34,4 @@ pub load-spec : {M : Type 1} → statement M
 load-spec =
     tie.close
     (tie.spec
-    Inv-loop
-    μ-loop
-    no-words-requires
-    loop-holds
-    mul-out
-    shared-slice-read-out
-    mul-out-2
-    array-write-out
-    add-u
-    loop-less
-    loop-again
-    returns)
+    Inv-loop μ-loop (search needs) loop-holds (search needs) (search needs) (search needs) (search needs) (search needs) (search needs) loop-again returns)

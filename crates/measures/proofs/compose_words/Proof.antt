@@ -6,20 +6,8 @@ use borrow.Author.Needs.{needs}
 use Rattle.measures.proofs.compose_words.Statement.{statement}
 use Rattle.measures.proofs.compose_words.Tie as tie
 
-unite-into-requires : tie.Need-unite-into-requires
-unite-into-requires c κs = search needs
-
-same-length : tie.Need-same-length
-same-length c = search needs
-
 returns : tie.Need-returns
 returns c = c .before .before .unite-into .ensures ∙ join-union _ _ _ _ (c .before .before .before .before .if1 .taken)
-
-intersect-into-requires : tie.Need-intersect-into-requires
-intersect-into-requires c κs = search needs
-
-same-length-2 : tie.Need-same-length-2
-same-length-2 c = search needs
 
 returns-2 : tie.Need-returns-2
 returns-2 c =
@@ -28,11 +16,4 @@ returns-2 c =
 
 pub compose-words-spec : {M : Type 1} → statement M
 compose-words-spec =
-    tie.close
-    (tie.spec
-    unite-into-requires
-    same-length
-    returns
-    intersect-into-requires
-    same-length-2
-    returns-2)
+    tie.close (tie.spec (search needs) (search needs) returns (search needs) (search needs) returns-2)

@@ -13,9 +13,6 @@ own-times-requires c κs =
     let c4 = c .before .before .before .before in
     let w = width-times _ (c4 .args .n) (c .before .if1 .taken) in (search needs, (search needs, (omega arith, search needs)))
 
-same-length : tie.Need-same-length
-same-length c = search needs
-
 returns : tie.Need-returns
 unfolding ownOf
 returns c = simp (eq-eqb _ _ (c .before .before .before .before .if1 .taken)) (c .before .before .own-times .ensures)
@@ -24,9 +21,6 @@ close-over-requires : tie.Need-close-over-requires
 close-over-requires c κs =
     let c5 = c .before .before .before .before .before in
     let w = width-links _ (c5 .args .n) (c .before .before .if1 .left) in (search needs, (omega arith, search needs))
-
-same-length-2 : tie.Need-same-length-2
-same-length-2 c = search needs
 
 returns-2 : tie.Need-returns-2
 unfolding ownOf
@@ -40,9 +34,6 @@ copy-over-requires c κs =
     let c5 = c .before .before .before .before .before in
     let w = width-links _ (c5 .args .n) (c .before .before .if1 .left) in (omega arith, search needs)
 
-same-length-3 : tie.Need-same-length-3
-same-length-3 c = search needs
-
 returns-3 : tie.Need-returns-3
 unfolding ownOf
 returns-3 c =
@@ -52,14 +43,4 @@ returns-3 c =
 
 pub own-spec : {M : Type 1} → statement M
 own-spec =
-    tie.close
-    (tie.spec
-    own-times-requires
-    same-length
-    returns
-    close-over-requires
-    same-length-2
-    returns-2
-    copy-over-requires
-    same-length-3
-    returns-3)
+    tie.close (tie.spec own-times-requires (search needs) returns close-over-requires (search needs) returns-2 copy-over-requires (search needs) returns-3)

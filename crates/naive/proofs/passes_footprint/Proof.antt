@@ -5,47 +5,10 @@ use borrow.Author.Needs.{needs}
 use Rattle.naive.proofs.passes_footprint.Statement.{statement}
 use Rattle.naive.proofs.passes_footprint.Tie as tie
 
-abbrev Inv-loop : tie.InvT-loop
-Inv-loop words n m a e u₀ u = Unit {0}
-
-abbrev μ-loop : tie.MeasureT-loop
-μ-loop words n m a e u₀ u = n - u
-
-loop-holds : tie.Need-loop-holds Inv-loop μ-loop
-loop-holds c = search needs
-
-united-requires : tie.Need-united-requires Inv-loop μ-loop
-united-requires c κs = search needs
-
-united-requires-2 : tie.Need-united-requires-2 Inv-loop μ-loop
-united-requires-2 c κs = search needs
-
-returns : tie.Need-returns Inv-loop μ-loop
-returns c = search needs
-
-add-u : tie.Need-add-u Inv-loop μ-loop
-add-u c = search needs
-
-loop-less : tie.Need-loop-less Inv-loop μ-loop
-loop-less c = search needs
-
-loop-again : tie.Need-loop-again Inv-loop μ-loop
-loop-again c = search needs
-
-returns-2 : tie.Need-returns-2 Inv-loop μ-loop
-returns-2 c = search needs
-
 pub passes-footprint-spec : {M : Type 1} → statement M
 passes-footprint-spec =
     tie.close
     (tie.spec
-    Inv-loop
-    μ-loop
-    loop-holds
-    united-requires
-    united-requires-2
-    returns
-    add-u
-    loop-less
-    loop-again
-    returns-2)
+    (λ words n m a e u₀ u. Unit {0})
+    (λ words n m a e u₀ u. n - u)
+    (search needs) (search needs) (search needs) (search needs) (search needs) (search needs) (search needs) (search needs))

@@ -5,47 +5,10 @@ use borrow.Author.Needs.{needs}
 use Rattle.naive.proofs.smallest.Statement.{statement}
 use Rattle.naive.proofs.smallest.Tie as tie
 
-abbrev Inv-loop : tie.InvT-loop
-Inv-loop words n m measure k end l₀ l = Unit {0}
-
-abbrev μ-loop : tie.MeasureT-loop
-μ-loop words n m measure k end l₀ l = end - l
-
-add-end : tie.Need-add-end Inv-loop μ-loop
-add-end c = search needs
-
-loop-holds : tie.Need-loop-holds Inv-loop μ-loop
-loop-holds c = search needs
-
-all-pass-requires : tie.Need-all-pass-requires Inv-loop μ-loop
-all-pass-requires c κs = search needs
-
-returns : tie.Need-returns Inv-loop μ-loop
-returns c = search needs
-
-add-l : tie.Need-add-l Inv-loop μ-loop
-add-l c = search needs
-
-loop-less : tie.Need-loop-less Inv-loop μ-loop
-loop-less c = search needs
-
-loop-again : tie.Need-loop-again Inv-loop μ-loop
-loop-again c = search needs
-
-returns-2 : tie.Need-returns-2 Inv-loop μ-loop
-returns-2 c = search needs
-
 pub smallest-spec : {M : Type 1} → statement M
 smallest-spec =
     tie.close
     (tie.spec
-    Inv-loop
-    μ-loop
-    add-end
-    loop-holds
-    all-pass-requires
-    returns
-    add-l
-    loop-less
-    loop-again
-    returns-2)
+    (λ words n m measure k end l₀ l. Unit {0})
+    (λ words n m measure k end l₀ l. end - l)
+    (search needs) (search needs) (search needs) (search needs) (search needs) (search needs) (search needs) (search needs))

@@ -14,9 +14,6 @@ Inv-loop words n picks measure y₀ y =
 abbrev μ-loop : tie.MeasureT-loop
 μ-loop words n picks measure y₀ y = y .m - y .s
 
-loop-holds : tie.Need-loop-holds Inv-loop μ-loop
-loop-holds c = search needs
-
 repeated-requires : tie.Need-repeated-requires Inv-loop μ-loop
 repeated-requires c κs =
     let loop = c .before .before .before .before .loop in
@@ -36,13 +33,6 @@ loop-again c =
     let below : loop .y .s < loop .y .m = ltb-true _ _ (c .before .if2 .taken) in
     search needs
 
-returns : tie.Need-returns Inv-loop μ-loop
-returns c = search needs
-
-returns-2 : tie.Need-returns-2 Inv-loop μ-loop
-returns-2 c = search needs
-
 pub climbed-spec : {M : Type 1} → statement M
 climbed-spec =
-    tie.close
-    (tie.spec Inv-loop μ-loop loop-holds repeated-requires loop-less loop-again returns returns-2)
+    tie.close (tie.spec Inv-loop μ-loop (search needs) repeated-requires loop-less loop-again (search needs) (search needs))

@@ -6,14 +6,9 @@ use Rattle.naive_walk.proofs.Behind.{behind}
 use Rattle.naive_walk.proofs.smallest_step.Statement.{statement}
 use Rattle.naive_walk.proofs.smallest_step.Tie as tie
 
-entered-requires : tie.Need-entered-requires
-entered-requires c κs = search needs
-
-tested-requires : tie.Need-tested-requires
-tested-requires c κs = search needs
-
 returns : tie.Need-returns
 returns c = (behind (c .tested .result) (search needs) (omega arith) (omega arith), omega arith)
 
 pub smallest-step-spec : {M : Type 1} → statement M
-smallest-step-spec = tie.close (tie.spec entered-requires tested-requires returns)
+smallest-step-spec =
+    tie.close (tie.spec (search needs) (search needs) returns)

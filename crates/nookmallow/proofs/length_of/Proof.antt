@@ -9,18 +9,9 @@ use borrow.Author.Needs.{needs}
 use Rattle.nookmallow.proofs.length_of.Statement.{statement}
 use Rattle.nookmallow.proofs.length_of.Tie as tie
 
-are-flags-requires : tie.Need-are-flags-requires
-are-flags-requires c κs = search needs
-
 returns : tie.Need-returns
 unfolding lengthAnswers
 returns c = simp (sym (c .before .are-flags .ensures) ∙ not-true _ (c .if1 .taken))
-
-place-of-requires : tie.Need-place-of-requires
-place-of-requires c κs = search needs
-
-length-requires : tie.Need-length-requires
-length-requires c κs = search needs
 
 answer-words-requires : tie.Need-answer-words-requires
 answer-words-requires c κs = subst NarrowAnswer (sym (c .length .ensures .0)) (length-narrow _)
@@ -38,11 +29,4 @@ returns-2 c =
 
 pub length-of-spec : {M : Type 1} → statement M
 length-of-spec =
-    tie.close
-    (tie.spec
-    are-flags-requires
-    returns
-    place-of-requires
-    length-requires
-    answer-words-requires
-    returns-2)
+    tie.close (tie.spec (search needs) returns (search needs) (search needs) answer-words-requires returns-2)

@@ -4,11 +4,9 @@ use borrow.Author.Needs.{needs}
 use Rattle.nookmallow.proofs.nookmallow_length.Statement.{statement}
 use Rattle.nookmallow.proofs.nookmallow_length.Tie as tie
 
-length-of-requires : tie.Need-length-of-requires
-length-of-requires c κs = search needs
-
 returns : tie.Need-returns
 returns c = simp (c .length-of .ensures)
 
 pub nookmallow-length-spec : {M : Type 1} → statement M
-nookmallow-length-spec = tie.close (tie.spec length-of-requires returns)
+nookmallow-length-spec =
+    tie.close (tie.spec (search needs) returns)

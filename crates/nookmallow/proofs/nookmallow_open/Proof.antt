@@ -9,22 +9,10 @@ use borrow.Author.Needs.{needs}
 use Rattle.nookmallow.proofs.nookmallow_open.Statement.{statement}
 use Rattle.nookmallow.proofs.nookmallow_open.Tie as tie
 
-open-requires : tie.Need-open-requires
-open-requires c κs = search needs
-
-enum-known-p : tie.Need-enum-known-p
-enum-known-p c = search needs
-
 words-of-requires : tie.Need-words-of-requires
 words-of-requires c κs =
     let c5 = c .before .before .before .before .before in
     subst Narrow (sym (ap (λ (h : Handed). h .place) (sym (ap openingSays (c .before .p .given .1)) ∙ c5 .«open» .ensures .0))) (open-narrow _ _ _ _ _)
-
-enum-known-p-2 : tie.Need-enum-known-p-2
-enum-known-p-2 c = search needs
-
-cause-word-requires : tie.Need-cause-word-requires
-cause-word-requires c κs = search needs
 
 words-of-requires-2 : tie.Need-words-of-requires-2
 words-of-requires-2 c κs =
@@ -32,16 +20,10 @@ words-of-requires-2 c κs =
     subst Narrow (sym (ap (λ (h : Handed). h .place) (sym (ap openingSays (c .before .before .p2 .given .1)) ∙ c6 .«open» .ensures .0)))
     (open-narrow _ _ _ _ _)
 
-same-length : tie.Need-same-length
-same-length c = search needs
-
 returns : tie.Need-returns
 returns c =
     let c6 = c .before .before .before .before .before .before in
     (handed-is refl (c .words-of .ensures) (sym (ap openingSays (c .before .before .p .given .1)) ∙ c6 .«open» .ensures .0), c6 .«open» .ensures .1)
-
-same-length-2 : tie.Need-same-length-2
-same-length-2 c = search needs
 
 returns-2 : tie.Need-returns-2
 returns-2 c =
@@ -55,13 +37,4 @@ pub nookmallow-open-spec : {M : Type 1} → statement M
 nookmallow-open-spec =
     tie.close
     (tie.spec
-    open-requires
-    enum-known-p
-    words-of-requires
-    enum-known-p-2
-    cause-word-requires
-    words-of-requires-2
-    same-length
-    returns
-    same-length-2
-    returns-2)
+    (search needs) (search needs) words-of-requires (search needs) (search needs) words-of-requires-2 (search needs) returns (search needs) returns-2)

@@ -10,38 +10,17 @@ use borrow.Author.Needs.{needs}
 use Rattle.nookmallow.proofs.nookmallow_pick.Statement.{statement}
 use Rattle.nookmallow.proofs.nookmallow_pick.Tie as tie
 
-are-flags-requires : tie.Need-are-flags-requires
-are-flags-requires c κs = search needs
-
 returns : tie.Need-returns
 returns c = (
   flag-refused _ _ _ (sym (c .before .are-flags .ensures) ∙ not-true _ (c .if1 .taken)),
   flag-kept _ _ _ (sym (c .before .are-flags .ensures) ∙ not-true _ (c .if1 .taken)),
 )
 
-place-of-requires : tie.Need-place-of-requires
-place-of-requires c κs = search needs
-
-pick-requires : tie.Need-pick-requires
-pick-requires c κs = search needs
-
-enum-known-q : tie.Need-enum-known-q
-enum-known-q c = search needs
-
 words-of-requires : tie.Need-words-of-requires
 words-of-requires c κs =
     let c5 = c .before .before .before .before .before in
     let e = sym (ap takingSays (c .before .q .given .1)) ∙ c5 .pick .ensures .0 in subst Narrow (sym (ap (λ (h : Handed). h .place) e))
     (pick-narrow _ _ _ (sym (ap (λ (h : Handed). h .refusal) e)))
-
-enum-known-c : tie.Need-enum-known-c
-enum-known-c c = search needs
-
-cause-word-requires : tie.Need-cause-word-requires
-cause-word-requires c κs = search needs
-
-same-length : tie.Need-same-length
-same-length c = search needs
 
 returns-2 : tie.Need-returns-2
 returns-2 c =
@@ -54,9 +33,6 @@ returns-2 c =
       picked-is _ a w f e (handed-is refl (c .words-of .ensures) (sym (ap takingSays (c .before .before .q .given .1)) ∙ c6 .pick .ensures .0)),
       kept-is _ a w f e (c6 .pick .ensures .1),
     )
-
-same-length-2 : tie.Need-same-length-2
-same-length-2 c = search needs
 
 returns-3 : tie.Need-returns-3
 returns-3 c =
@@ -73,15 +49,5 @@ pub nookmallow-pick-spec : {M : Type 1} → statement M
 nookmallow-pick-spec =
     tie.close
     (tie.spec
-    are-flags-requires
-    returns
-    place-of-requires
-    pick-requires
-    enum-known-q
-    words-of-requires
-    enum-known-c
-    cause-word-requires
-    same-length
-    returns-2
-    same-length-2
-    returns-3)
+    (search needs) returns (search needs) (search needs) (search needs) words-of-requires (search needs) (search needs) (search needs) returns-2
+    (search needs) returns-3)

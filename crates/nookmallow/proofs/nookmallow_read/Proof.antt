@@ -10,12 +10,6 @@ use borrow.Author.Needs.{needs}
 use Rattle.nookmallow.proofs.nookmallow_read.Statement.{statement}
 use Rattle.nookmallow.proofs.nookmallow_read.Tie as tie
 
-read-requires : tie.Need-read-requires
-read-requires c κs = search needs
-
-enum-known-boards : tie.Need-enum-known-boards
-enum-known-boards c = search needs
-
 narrow-requires : tie.Need-narrow-requires
 narrow-requires c κs =
     let c5 = c .before .before .before .before .before in
@@ -26,15 +20,6 @@ narrow-requires-2 c κs =
     let c6 = c .before .before .before .before .before .before in
     let g = read-law _ _ _ _ _ (sym (sym (ap readingSays (c .before .before .boards .given .1)) ∙ c6 .read .ensures .0)) in let h = g .few in search needs
 
-enum-known-c : tie.Need-enum-known-c
-enum-known-c c = search needs
-
-cause-word-requires : tie.Need-cause-word-requires
-cause-word-requires c κs = search needs
-
-same-length : tie.Need-same-length
-same-length c = search needs
-
 returns : tie.Need-returns
 returns c =
     let c3 = c .before .before .before in
@@ -42,9 +27,6 @@ returns c =
       simp (c .before .narrow .ensures, c .narrow2 .ensures) (ap readingWords (sym (ap readingSays (c3 .boards .given .1)) ∙ c7 .read .ensures .0)),
       c7 .read .ensures .1,
     )
-
-same-length-2 : tie.Need-same-length-2
-same-length-2 c = search needs
 
 returns-2 : tie.Need-returns-2
 returns-2 c =
@@ -55,13 +37,4 @@ pub nookmallow-read-spec : {M : Type 1} → statement M
 nookmallow-read-spec =
     tie.close
     (tie.spec
-    read-requires
-    enum-known-boards
-    narrow-requires
-    narrow-requires-2
-    enum-known-c
-    cause-word-requires
-    same-length
-    returns
-    same-length-2
-    returns-2)
+    (search needs) (search needs) narrow-requires narrow-requires-2 (search needs) (search needs) (search needs) returns (search needs) returns-2)

@@ -7,18 +7,12 @@ use borrow.Author.Needs.{needs}
 use Rattle.nookmallow.proofs.nookmallow_whole.Statement.{statement}
 use Rattle.nookmallow.proofs.nookmallow_whole.Tie as tie
 
-whole-requires : tie.Need-whole-requires
-whole-requires c κs = search needs
-
 answer-words-requires : tie.Need-answer-words-requires
 answer-words-requires c κs = subst NarrowAnswer (sym (c .before .before .whole .ensures .0)) (whole-narrow _ _ _ _)
-
-same-length : tie.Need-same-length
-same-length c = search needs
 
 returns : tie.Need-returns
 returns c = (c .answer-words .ensures ∙ ap answerWords (c .before .before .before .whole .ensures .0), c .before .before .before .whole .ensures .1)
 
 pub nookmallow-whole-spec : {M : Type 1} → statement M
 nookmallow-whole-spec =
-    tie.close (tie.spec whole-requires answer-words-requires same-length returns)
+    tie.close (tie.spec (search needs) answer-words-requires (search needs) returns)

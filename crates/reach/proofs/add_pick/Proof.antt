@@ -8,24 +8,6 @@ use borrow.Author.Needs.{needs}
 use Rattle.reach.proofs.add_pick.Statement.{statement}
 use Rattle.reach.proofs.add_pick.Tie as tie
 
-closed-words-requires : tie.Need-closed-words-requires
-closed-words-requires c κs = search needs
-
-sub-join-over : tie.Need-sub-join-over
-sub-join-over c = search needs
-
-part-join-over-start : tie.Need-part-join-over-start
-part-join-over-start c = search needs
-
-part-join-over-end : tie.Need-part-join-over-end
-part-join-over-end c = search needs
-
-join-over-requires : tie.Need-join-over-requires
-join-over-requires c κs = search needs
-
-same-length : tie.Need-same-length
-same-length c = search needs
-
 returns : tie.Need-returns
 returns c =
     let start = c .before .before .before .before .before .before .before .before .before in
@@ -35,12 +17,4 @@ returns c =
 
 pub add-pick-spec : {M : Type 1} → statement M
 add-pick-spec =
-    tie.close
-    (tie.spec
-    closed-words-requires
-    sub-join-over
-    part-join-over-start
-    part-join-over-end
-    join-over-requires
-    same-length
-    returns)
+    tie.close (tie.spec (search needs) (search needs) (search needs) (search needs) (search needs) (search needs) returns)

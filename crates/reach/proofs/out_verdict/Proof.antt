@@ -9,9 +9,6 @@ use Rattle.reach.proofs.out_verdict.Tie as tie
 returns : tie.Need-returns
 returns c = cause-here _ (lt-ltb _ _ (c .if1 .taken))
 
-are-clean-requires : tie.Need-are-clean-requires
-are-clean-requires c κs = search needs
-
 returns-2 : tie.Need-returns-2
 returns-2 c = cause-next _ _ (le-ltb _ _ (c .before .before .if1 .left)) (cause-here _ (failed-by (c .before .are-clean .ensures) (c .if2 .taken)))
 
@@ -19,4 +16,5 @@ returns-3 : tie.Need-returns-3
 returns-3 c = cause-next _ _ (le-ltb _ _ (c .before .before .if1 .left)) (cause-next _ _ (passed-by (c .before .are-clean .ensures) (c .if2 .left)) cause-none)
 
 pub out-verdict-spec : {M : Type 1} → statement M
-out-verdict-spec = tie.close (tie.spec returns are-clean-requires returns-2 returns-3)
+out-verdict-spec =
+    tie.close (tie.spec returns (search needs) returns-2 returns-3)

@@ -11,21 +11,9 @@ use borrow.Author.Needs.{needs}
 use Rattle.reach.proofs.table.Statement.{statement}
 use Rattle.reach.proofs.table.Tie as tie
 
-table-verdict-requires : tie.Need-table-verdict-requires
-table-verdict-requires c κs = search needs
-
-enum-told : tie.Need-enum-told
-enum-told c = search needs
-
 div-m : tie.Need-div-m
 div-m c = let t = table-sound _ _ _ (sym (c .before .before .table-verdict .ensures)
     ∙ ap verdictSays (c .enum-told .given .1)) in let b = t .some-boards in omega arith
-
-sub-write-table : tie.Need-sub-write-table
-sub-write-table c = search needs
-
-part-write-table-start : tie.Need-part-write-table-start
-part-write-table-start c = search needs
 
 part-write-table-end : tie.Need-part-write-table-end
 part-write-table-end c = let t = table-sound _ _ _ (sym (c .before .before .table-verdict .ensures)
@@ -38,12 +26,6 @@ write-table-requires c κs =
     let w = t .words in
     (t .few, (front-long (c7 .args .n) (c7 .args .out .now) (t .room), (t .some-picks, (t .cap, omega arith))))
 
-enum-known-c : tie.Need-enum-known-c
-enum-known-c c = search needs
-
-same-length : tie.Need-same-length
-same-length c = search needs
-
 returns : tie.Need-returns
 unfolding tableLeaves tableOf
 returns c =
@@ -51,9 +33,6 @@ returns c =
     let c6 = c4 .before .before in
     let e = sym (c6 .table-verdict .ensures) ∙ ap verdictSays (c4 .enum-told .given .1) in
     (sym e, simp (e, c .before .before .write-table .ensures, sub-zero))
-
-same-length-2 : tie.Need-same-length-2
-same-length-2 c = search needs
 
 returns-2 : tie.Need-returns-2
 unfolding tableLeaves
@@ -65,15 +44,5 @@ pub table-spec : {M : Type 1} → statement M
 table-spec =
     tie.close
     (tie.spec
-    table-verdict-requires
-    enum-told
-    div-m
-    sub-write-table
-    part-write-table-start
-    part-write-table-end
-    write-table-requires
-    enum-known-c
-    same-length
-    returns
-    same-length-2
-    returns-2)
+    (search needs) (search needs) div-m (search needs) (search needs) part-write-table-end write-table-requires (search needs) (search needs) returns
+    (search needs) returns-2)

@@ -10,18 +10,12 @@ use borrow.Author.Needs.{needs}
 use Rattle.reach.proofs.table_verdict.Statement.{statement}
 use Rattle.reach.proofs.table_verdict.Tie as tie
 
-is-between-requires : tie.Need-is-between-requires
-is-between-requires c κs = search needs
-
 returns : tie.Need-returns
 unfolding tableVerdict
 returns c = cause-here _ (failed-by (c .before .is-between .ensures) (c .if1 .taken))
 
 lent-verdict-requires : tie.Need-lent-verdict-requires
 lent-verdict-requires c κs = let b = between-says _ _ _ (holds-by (c .before .is-between .ensures) (c .if1 .left)) .0 in omega arith
-
-enum-told : tie.Need-enum-told
-enum-told c = search needs
 
 div-out-verdict : tie.Need-div-out-verdict
 div-out-verdict c =
@@ -38,9 +32,6 @@ out-verdict-requires c κs =
     let w = c7 .args .words .now in
     let l = lent-sound n w (none-holds (lentCauses n w) tt .0 (sym (c .before .before .lent-verdict .ensures) ∙ ap verdictSays (c .enum-told .given .1))) in
     (between-says _ _ _ (holds-by (c4 .is-between .ensures) (c3 .if1 .left)) .1, l .2, omega (arith, l .0))
-
-enum-known-c : tie.Need-enum-known-c
-enum-known-c c = search needs
 
 returns-2 : tie.Need-returns-2
 unfolding tableVerdict
@@ -66,14 +57,4 @@ returns-3 c =
 
 pub table-verdict-spec : {M : Type 1} → statement M
 table-verdict-spec =
-    tie.close
-    (tie.spec
-    is-between-requires
-    returns
-    lent-verdict-requires
-    enum-told
-    div-out-verdict
-    out-verdict-requires
-    enum-known-c
-    returns-2
-    returns-3)
+    tie.close (tie.spec (search needs) returns lent-verdict-requires (search needs) div-out-verdict out-verdict-requires (search needs) returns-2 returns-3)

@@ -20,19 +20,10 @@ Inv-loop out₀ words n m k₀ out k = (1 ≤ k) × ((k ≤ m) × ((length out �
 abbrev μ-loop : tie.MeasureT-loop
 μ-loop out₀ words n m k₀ out k = m - k
 
-sub-close-over : tie.Need-sub-close-over Inv-loop μ-loop
-sub-close-over c = search needs
-
-part-close-over-start : tie.Need-part-close-over-start Inv-loop μ-loop
-part-close-over-start c = search needs
-
 part-close-over-end : tie.Need-part-close-over-end Inv-loop μ-loop
 part-close-over-end c =
     let c3 = c .before .before .before in
     omega (arith, lent-end (c3 .args .n) {k = 0} {m = c3 .args .m} (c3 .pre .1 .1 .0))
-
-close-over-requires : tie.Need-close-over-requires Inv-loop μ-loop
-close-over-requires c κs = search needs
 
 loop-holds : tie.Need-loop-holds Inv-loop μ-loop
 loop-holds c =
@@ -61,25 +52,10 @@ mul-add-pick c =
     let c10 = c .before .before .before .before .before .before .before .before .before .before in
     omega (arith, lent-end (c10 .args .n) (c .before .loop-test .taken))
 
-sub-add-pick : tie.Need-sub-add-pick Inv-loop μ-loop
-sub-add-pick c = search needs
-
-part-add-pick-start : tie.Need-part-add-pick-start Inv-loop μ-loop
-part-add-pick-start c = search needs
-
 part-add-pick-end : tie.Need-part-add-pick-end Inv-loop μ-loop
 part-add-pick-end c =
     let c10 = c .before .before .before .before .before .before .before .before .before .before in
     omega (arith, lent-end (c10 .args .n) (c .before .loop-test .taken))
-
-add-pick-requires : tie.Need-add-pick-requires Inv-loop μ-loop
-add-pick-requires c κs = search needs
-
-add-k : tie.Need-add-k Inv-loop μ-loop
-add-k c = search needs
-
-loop-less : tie.Need-loop-less Inv-loop μ-loop
-loop-less c = search needs
 
 loop-again : tie.Need-loop-again Inv-loop μ-loop
 loop-again c =
@@ -98,9 +74,6 @@ loop-again c =
       ),
     )
 
-same-length : tie.Need-same-length Inv-loop μ-loop
-same-length c = search needs
-
 returns : tie.Need-returns Inv-loop μ-loop
 returns c =
     let c9 = c .before .before .before .before .before .before .before .before .before in
@@ -110,22 +83,5 @@ pub write-table-spec : {M : Type 1} → statement M
 write-table-spec =
     tie.close
     (tie.spec
-    Inv-loop
-    μ-loop
-    sub-close-over
-    part-close-over-start
-    part-close-over-end
-    close-over-requires
-    loop-holds
-    mul-at
-    add-add-pick
-    mul-add-pick
-    sub-add-pick
-    part-add-pick-start
-    part-add-pick-end
-    add-pick-requires
-    add-k
-    loop-less
-    loop-again
-    same-length
-    returns)
+    Inv-loop μ-loop (search needs) (search needs) part-close-over-end (search needs) loop-holds mul-at add-add-pick mul-add-pick (search needs)
+    (search needs) part-add-pick-end (search needs) (search needs) (search needs) loop-again (search needs) returns)

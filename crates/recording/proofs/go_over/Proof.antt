@@ -15,15 +15,6 @@ use borrow.Author.Needs.{needs}
 use Rattle.recording.proofs.go_over.Statement.{statement}
 use Rattle.recording.proofs.go_over.Tie as tie
 
-head-at-requires : tie.Need-head-at-requires
-head-at-requires c κs = search needs
-
-enum-known-head : tie.Need-enum-known-head
-enum-known-head c = search needs
-
-refusal-in-requires : tie.Need-refusal-in-requires
-refusal-in-requires c κs = search needs
-
 returns : tie.Need-returns
 unfolding recordingAt
 returns c = let h = c .before .before in
@@ -32,18 +23,9 @@ returns c = let h = c .before .before in
     let e = ap (opened _ _ _) (sym (h .head-at .ensures)) ∙ opened-other _ _ _ (h .head-at .result) (c .before .match .keys2) in
     rw (c .refusal-in .ensures) (refused-over w (splice 0 0 [] (s .args .out .now)) _ _ (s .pre) e (nothing-kept w _))
 
-no-words-requires : tie.Need-no-words-requires
-no-words-requires c κs = search needs
-
 add-go-over-commands : tie.Need-add-go-over-commands
 add-go-over-commands c = let h = c .before .before .before .before in
     omega (arith, headed _ _ _ _ _ (sym (h .head-at .ensures) ∙ c .before .before .head .given .1) .there)
-
-sub-go-over-commands : tie.Need-sub-go-over-commands
-sub-go-over-commands c = search needs
-
-part-links-start : tie.Need-part-links-start
-part-links-start c = search needs
 
 part-links-end : tie.Need-part-links-end
 part-links-end c =
@@ -64,9 +46,6 @@ go-over-commands-requires c κs = let z = c .before .before in
     let l = lent _ _ _ (z .no-words .ensures) (k .high) in
     (lent-length _ _ _ (z .no-words .ensures) (k .high), k .high, k .room-for, λ t. rw l (rw e at (h .before .before .before .pre t)))
 
-same-length : tie.Need-same-length
-same-length c = search needs
-
 returns-2 : tie.Need-returns-2
 unfolding recordingAt
 returns-2 c = let z = c .before .before .before .before .before .before in
@@ -78,15 +57,5 @@ pub go-over-spec : {M : Type 1} → statement M
 go-over-spec =
     tie.close
     (tie.spec
-    head-at-requires
-    enum-known-head
-    refusal-in-requires
-    returns
-    no-words-requires
-    add-go-over-commands
-    sub-go-over-commands
-    part-links-start
-    part-links-end
-    go-over-commands-requires
-    same-length
-    returns-2)
+    (search needs) (search needs) (search needs) returns (search needs) add-go-over-commands (search needs) (search needs) part-links-end
+    go-over-commands-requires (search needs) returns-2)

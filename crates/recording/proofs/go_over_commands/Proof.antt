@@ -24,29 +24,11 @@ abbrev μ-loop : tie.MeasureT-loop
 loop-holds : tie.Need-loop-holds Inv-loop μ-loop
 loop-holds c = (c .before .before .before .pre .0, refl, underway-start _ _ _ _ _ _ _)
 
-next-requires : tie.Need-next-requires Inv-loop μ-loop
-next-requires c κs = search needs
-
-enum-known-command : tie.Need-enum-known-command Inv-loop μ-loop
-enum-known-command c = search needs
-
-refusal-in-requires : tie.Need-refusal-in-requires Inv-loop μ-loop
-refusal-in-requires c κs = search needs
-
-same-length : tie.Need-same-length Inv-loop μ-loop
-same-length c = search needs
-
-same-length-2 : tie.Need-same-length-2 Inv-loop μ-loop
-same-length-2 c = search needs
-
 returns : tie.Need-returns Inv-loop μ-loop
 returns c = let t = c .before .before in
     let l = t .before .before .before in
     let o = underway-other (l .loop .inv .2) (t .next .ensures) (t .before .before .loop-test .taken) (l .before .before .before .before .pre .3) in
     rw (c .refusal-in .ensures) (o (c .before .match .keys2))
-
-enum-known-item : tie.Need-enum-known-item Inv-loop μ-loop
-enum-known-item c = search needs
 
 flip-requires : tie.Need-flip-requires Inv-loop μ-loop
 flip-requires c κs = let i = c .before .before in
@@ -56,12 +38,6 @@ flip-requires c κs = let i = c .before .before in
     underway-able (l .loop .inv .2) (t .next .ensures) (t .before .before .loop-test .taken) (m .command .given .1) (i .item .given .1)
     (l .loop .inv .0) (l .before .before .before .before .pre .1)
 
-add-at : tie.Need-add-at Inv-loop μ-loop
-add-at c = search needs
-
-loop-less : tie.Need-loop-less Inv-loop μ-loop
-loop-less c = search needs
-
 loop-again : tie.Need-loop-again Inv-loop μ-loop
 loop-again c = let i = c .before .before .before .before .before in
     let m = i .before .before .before in
@@ -69,9 +45,6 @@ loop-again c = let i = c .before .before .before .before .before in
     let l = t .before .before .before in
     let a = underway-link (l .loop .inv .2) (t .next .ensures) (t .before .before .loop-test .taken) (m .command .given .1) (i .item .given .1) in
     (l .loop .inv .0 ∙ sym (c .before .before .flip .kept .0), l .loop .inv .1, rw (c .before .before .flip .ensures) a)
-
-enum-told : tie.Need-enum-told Inv-loop μ-loop
-enum-told c = search needs
 
 put-requires : tie.Need-put-requires Inv-loop μ-loop
 put-requires c κs = let i = c .before .before in
@@ -89,12 +62,6 @@ add-picks c = let i = c .before .before .before .before .before in
     let h = underway-within (l .loop .inv .2) (t .next .ensures) (t .before .before .loop-test .taken) (m .command .given .1) (i .enum-told .given .1) in
     omega (arith, l .before .before .before .before .fits .limit)
 
-add-at-2 : tie.Need-add-at-2 Inv-loop μ-loop
-add-at-2 c = search needs
-
-loop-less-2 : tie.Need-loop-less-2 Inv-loop μ-loop
-loop-less-2 c = search needs
-
 loop-again-2 : tie.Need-loop-again-2 Inv-loop μ-loop
 loop-again-2 c = let i = c .before .before .before .before .before in
     let m = i .before .before .before in
@@ -104,29 +71,11 @@ loop-again-2 c = let i = c .before .before .before .before .before in
     (l .loop .inv .0) in
     (l .loop .inv .0, c .before .before .put .kept .0 ∙ l .loop .inv .1, rw (c .before .before .put .ensures) a)
 
-enum-told-2 : tie.Need-enum-told-2 Inv-loop μ-loop
-enum-told-2 c = search needs
-
-add-t27 : tie.Need-add-t27 Inv-loop μ-loop
-add-t27 c = search needs
-
-same-length-3 : tie.Need-same-length-3 Inv-loop μ-loop
-same-length-3 c = search needs
-
-same-length-4 : tie.Need-same-length-4 Inv-loop μ-loop
-same-length-4 c = search needs
-
 returns-2 : tie.Need-returns-2 Inv-loop μ-loop
 returns-2 c = let m = c .before .before .before in
     let t = m .before .before in
     let l = t .before .before .before in
     underway-end (l .loop .inv .2) (t .next .ensures) (t .before .before .loop-test .taken) (m .command .given .1) (c .enum-told2 .given .1)
-
-same-length-5 : tie.Need-same-length-5 Inv-loop μ-loop
-same-length-5 c = search needs
-
-same-length-6 : tie.Need-same-length-6 Inv-loop μ-loop
-same-length-6 c = search needs
 
 returns-3 : tie.Need-returns-3 Inv-loop μ-loop
 returns-3 c = underway-stop (c .before .loop .inv .2) (c .before .before .before .before .before .pre .3) (c .loop-test .left)
@@ -135,31 +84,6 @@ pub go-over-commands-spec : {M : Type 1} → statement M
 go-over-commands-spec =
     tie.close
     (tie.spec
-    Inv-loop
-    μ-loop
-    loop-holds
-    next-requires
-    enum-known-command
-    refusal-in-requires
-    same-length
-    same-length-2
-    returns
-    enum-known-item
-    flip-requires
-    add-at
-    loop-less
-    loop-again
-    enum-told
-    put-requires
-    add-picks
-    add-at-2
-    loop-less-2
-    loop-again-2
-    enum-told-2
-    add-t27
-    same-length-3
-    same-length-4
-    returns-2
-    same-length-5
-    same-length-6
-    returns-3)
+    Inv-loop μ-loop loop-holds (search needs) (search needs) (search needs) (search needs) (search needs) returns (search needs) flip-requires
+    (search needs) (search needs) loop-again (search needs) put-requires add-picks (search needs) (search needs) loop-again-2 (search needs)
+    (search needs) (search needs) (search needs) returns-2 (search needs) (search needs) returns-3)

@@ -14,12 +14,6 @@ use Rattle.recording.proofs.read.Tie as tie
 go-over-requires : tie.Need-go-over-requires
 go-over-requires c κs = λ t. absurd (false≢true t)
 
-enum-known-boards : tie.Need-enum-known-boards
-enum-known-boards c = search needs
-
-same-length : tie.Need-same-length
-same-length c = search needs
-
 returns : tie.Need-returns
 unfolding firstOr readFile readSays readLeaves
 returns c = let p = c .before .before .before .before .before .before .go-over .ensures in
@@ -31,12 +25,6 @@ go-over-requires-2 c κs = let b = c .before .before .before in
     let p = b .before .before .before .before .go-over .ensures in
     λ t. rw (p .leaves, answered p (b .boards .given .1) .read)
 
-enum-known-r : tie.Need-enum-known-r
-enum-known-r c = search needs
-
-same-length-2 : tie.Need-same-length-2
-same-length-2 c = search needs
-
 returns-2 : tie.Need-returns-2
 unfolding firstOr readFile readSays readLeaves
 returns-2 c = let q = c .before .before in
@@ -45,9 +33,6 @@ returns-2 c = let q = c .before .before in
     let x = answered p (b .boards .given .1) in
     let t = le-ltb _ _ (q .before .before .if1 .left) in
     (simp (x .read, t, x .counted), q .go-over2 .ensures .leaves ∙ rw (p .leaves) (simp (x .read, t)))
-
-same-length-3 : tie.Need-same-length-3
-same-length-3 c = search needs
 
 returns-3 : tie.Need-returns-3
 unfolding readFile readSays readLeaves
@@ -59,13 +44,4 @@ pub read-spec : {M : Type 1} → statement M
 read-spec =
     tie.close
     (tie.spec
-    go-over-requires
-    enum-known-boards
-    same-length
-    returns
-    go-over-requires-2
-    enum-known-r
-    same-length-2
-    returns-2
-    same-length-3
-    returns-3)
+    go-over-requires (search needs) (search needs) returns go-over-requires-2 (search needs) (search needs) returns-2 (search needs) returns-3)

@@ -11,28 +11,16 @@ use Rattle.recording.proofs.read_at.Tie as tie
 go-over-requires : tie.Need-go-over-requires
 go-over-requires c κs = λ t. absurd (false≢true t)
 
-enum-told : tie.Need-enum-told
-enum-told c = search needs
-
 go-over-requires-2 : tie.Need-go-over-requires-2
 go-over-requires-2 c κs = let b = c .before in
     let p = b .before .before .before .before .go-over .ensures in
     λ t. rw (p .leaves, answered p (b .enum-told .given .1) .read)
-
-enum-known-r : tie.Need-enum-known-r
-enum-known-r c = search needs
-
-same-length : tie.Need-same-length
-same-length c = search needs
 
 returns : tie.Need-returns
 unfolding readAtSays readAtLeaves
 returns c = let q = c .before .before in
     let p = q .before .before .before .before .before .before .go-over .ensures in
     rw (sym (p .leaves)) (ap partSays (q .go-over2 .ensures .says), q .go-over2 .ensures .leaves)
-
-same-length-2 : tie.Need-same-length-2
-same-length-2 c = search needs
 
 returns-2 : tie.Need-returns-2
 unfolding readAtSays readAtLeaves
@@ -42,13 +30,4 @@ returns-2 c = let p = c .before .before .before .before .before .go-over .ensure
 
 pub read-at-spec : {M : Type 1} → statement M
 read-at-spec =
-    tie.close
-    (tie.spec
-    go-over-requires
-    enum-told
-    go-over-requires-2
-    enum-known-r
-    same-length
-    returns
-    same-length-2
-    returns-2)
+    tie.close (tie.spec go-over-requires (search needs) go-over-requires-2 (search needs) (search needs) returns (search needs) returns-2)

@@ -17,9 +17,6 @@ Inv-loop t n all s₀ k₀ s k = (k ≤ 32) × Seen true n t s k
 abbrev μ-loop : tie.MeasureT-loop
 μ-loop t n all s₀ k₀ s k = 32 - k
 
-low-bits-requires : tie.Need-low-bits-requires Inv-loop μ-loop
-low-bits-requires c κs = search needs
-
 loop-holds : tie.Need-loop-holds Inv-loop μ-loop
 loop-holds c = (search needs, seen-start _ _ _)
 
@@ -28,20 +25,11 @@ returns c =
     let c2 = c .before .before in
     sym (T→≡ _ (seen-all (c2 .before .before .before .pre .0) (c2 .loop .inv .1) (rw (c2 .before .low-bits .ensures) at (c .if1 .taken))))
 
-backward-requires : tie.Need-backward-requires Inv-loop μ-loop
-backward-requires c κs = search needs
-
 returns-2 : tie.Need-returns-2 Inv-loop μ-loop
 returns-2 c =
     let c4 = c .before .before .before .before in
     let m = seen-stays (sym (c .before .backward .ensures) ∙ c .if2 .taken) (c4 .loop .inv .1) 31 in
     sym (ne-eqb _ _ (rw (c4 .before .low-bits .ensures) at (c .before .before .if1 .left))) ∙ seen-end (c4 .before .before .before .pre .0) m (omega arith)
-
-add-k : tie.Need-add-k Inv-loop μ-loop
-add-k c = search needs
-
-loop-less : tie.Need-loop-less Inv-loop μ-loop
-loop-less c = search needs
 
 loop-again : tie.Need-loop-again Inv-loop μ-loop
 loop-again c = (search needs, rw (c .before .backward .ensures) (seen-next (c .before .before .before .before .loop .inv .1)))
@@ -51,16 +39,4 @@ returns-3 c = let c1 = c .before in rw (c1 .before .low-bits .ensures) (seen-end
 
 pub all-reach-spec : {M : Type 1} → statement M
 all-reach-spec =
-    tie.close
-    (tie.spec
-    Inv-loop
-    μ-loop
-    low-bits-requires
-    loop-holds
-    returns
-    backward-requires
-    returns-2
-    add-k
-    loop-less
-    loop-again
-    returns-3)
+    tie.close (tie.spec Inv-loop μ-loop (search needs) loop-holds returns (search needs) returns-2 (search needs) (search needs) loop-again returns-3)

@@ -19,21 +19,6 @@ loop-holds : tie.Need-loop-holds Inv-loop μ-loop
 unfolding collect
 loop-holds c = (search needs, refl)
 
-mul-board-to : tie.Need-mul-board-to Inv-loop μ-loop
-mul-board-to c = search needs
-
-shared-slice-read-board-to : tie.Need-shared-slice-read-board-to Inv-loop μ-loop
-shared-slice-read-board-to c = search needs
-
-board-to-requires : tie.Need-board-to-requires Inv-loop μ-loop
-board-to-requires c κs = search needs
-
-add-w : tie.Need-add-w Inv-loop μ-loop
-add-w c = search needs
-
-loop-less : tie.Need-loop-less Inv-loop μ-loop
-loop-less c = search needs
-
 loop-again : tie.Need-loop-again Inv-loop μ-loop
 loop-again c = let c3 = c .before .before .before in (search needs, simp (c .board-to .ensures, collect-next, c3 .loop .inv .1))
 
@@ -42,15 +27,4 @@ returns c = let e : c .before .loop .w ≡ c .before .before .before .args .n = 
 
 pub backward-spec : {M : Type 1} → statement M
 backward-spec =
-    tie.close
-    (tie.spec
-    Inv-loop
-    μ-loop
-    loop-holds
-    mul-board-to
-    shared-slice-read-board-to
-    board-to-requires
-    add-w
-    loop-less
-    loop-again
-    returns)
+    tie.close (tie.spec Inv-loop μ-loop loop-holds (search needs) (search needs) (search needs) (search needs) (search needs) loop-again returns)

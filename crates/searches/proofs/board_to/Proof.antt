@@ -8,12 +8,6 @@ use borrow.Author.Needs.{needs}
 use Rattle.searches.proofs.board_to.Statement.{statement}
 use Rattle.searches.proofs.board_to.Tie as tie
 
-cast-result : tie.Need-cast-result
-cast-result c = search needs
-
-shl-result : tie.Need-shl-result
-shl-result c = search needs
-
 returns : tie.Need-returns
 unfolding leading
 returns c = simp (eq-eqb _ _ (c .if1 .taken))
@@ -23,4 +17,5 @@ unfolding leading
 returns-2 c = simp (one-mul, mod-eq-of-lt (pow-lt {j = 32} (c .before .pre)), ne-eqb _ _ (c .if1 .left))
 
 pub board-to-spec : {M : Type 1} → statement M
-board-to-spec = tie.close (tie.spec cast-result shl-result returns returns-2)
+board-to-spec =
+    tie.close (tie.spec (search needs) (search needs) returns returns-2)

@@ -8,17 +8,11 @@ use borrow.Author.Needs.{needs}
 use Rattle.searches.proofs.is_connected.Statement.{statement}
 use Rattle.searches.proofs.is_connected.Tie as tie
 
-reaches-all-requires : tie.Need-reaches-all-requires
-reaches-all-requires c κs = search needs
-
 returns : tie.Need-returns
 unfolding connected
 returns c =
     let e = sym (c .before .reaches-all .ensures) ∙ not-true _ (c .if1 .taken) in
     rw (full-first _ _ (c .before .before .before .pre .0), e)
-
-all-reach-requires : tie.Need-all-reach-requires
-all-reach-requires c κs = search needs
 
 returns-2 : tie.Need-returns-2
 unfolding connected
@@ -29,4 +23,4 @@ returns-2 c =
 
 pub is-connected-spec : {M : Type 1} → statement M
 is-connected-spec =
-    tie.close (tie.spec reaches-all-requires returns all-reach-requires returns-2)
+    tie.close (tie.spec (search needs) returns (search needs) returns-2)

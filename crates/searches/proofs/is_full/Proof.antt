@@ -21,23 +21,8 @@ Inv-loop t n all u₀ u = (u ≤ n) × (every (rowFull n t) u ≡ true)
 abbrev μ-loop : tie.MeasureT-loop
 μ-loop t n all u₀ u = n - u
 
-low-bits-requires : tie.Need-low-bits-requires Inv-loop μ-loop
-low-bits-requires c κs = search needs
-
 loop-holds : tie.Need-loop-holds Inv-loop μ-loop
 loop-holds c = (search needs, every-none _)
-
-mul-if1 : tie.Need-mul-if1 Inv-loop μ-loop
-mul-if1 c = search needs
-
-shared-slice-read-if1 : tie.Need-shared-slice-read-if1 Inv-loop μ-loop
-shared-slice-read-if1 c = search needs
-
-cast-if1 : tie.Need-cast-if1 Inv-loop μ-loop
-cast-if1 c = search needs
-
-shl-if1 : tie.Need-shl-if1 Inv-loop μ-loop
-shl-if1 c = search needs
 
 returns : tie.Need-returns Inv-loop μ-loop
 unfolding full
@@ -46,12 +31,6 @@ returns c =
     let h : c2 .before .loop .u < 32 = omega arith in
     sym (every-stop _ _ _ (c2 .loop-test .taken)
     (row-full _ _ _ ∙ ne-eqb _ _ (simp (one-mul, mod-eq-of-lt (pow-lt {j = 32} h), c2 .before .before .low-bits .ensures) at (c .if1 .taken))))
-
-add-u : tie.Need-add-u Inv-loop μ-loop
-add-u c = search needs
-
-loop-less : tie.Need-loop-less Inv-loop μ-loop
-loop-less c = search needs
 
 loop-again : tie.Need-loop-again Inv-loop μ-loop
 loop-again c =
@@ -70,16 +49,5 @@ pub is-full-spec : {M : Type 1} → statement M
 is-full-spec =
     tie.close
     (tie.spec
-    Inv-loop
-    μ-loop
-    low-bits-requires
-    loop-holds
-    mul-if1
-    shared-slice-read-if1
-    cast-if1
-    shl-if1
-    returns
-    add-u
-    loop-less
-    loop-again
+    Inv-loop μ-loop (search needs) loop-holds (search needs) (search needs) (search needs) (search needs) returns (search needs) (search needs) loop-again
     returns-2)

@@ -14,17 +14,8 @@ Inv-loop t n all s₀ rest₀ s rest = Gone n t s rest
 abbrev μ-loop : tie.MeasureT-loop
 μ-loop t n all s₀ rest₀ s rest = rest
 
-low-bits-requires : tie.Need-low-bits-requires Inv-loop μ-loop
-low-bits-requires c κs = search needs
-
 loop-holds : tie.Need-loop-holds Inv-loop μ-loop
 loop-holds c = rw (c .low-bits .ensures) (gone-start _ _)
-
-board-in-requires : tie.Need-board-in-requires Inv-loop μ-loop
-board-in-requires c κs = search needs
-
-mul-s : tie.Need-mul-s Inv-loop μ-loop
-mul-s c = search needs
 
 shared-slice-read-s : tie.Need-shared-slice-read-s Inv-loop μ-loop
 shared-slice-read-s c = omega (arith, gone-below _ (c .before .before .before .loop .inv) (c .before .board-in .ensures .1))
@@ -34,9 +25,6 @@ returns c =
     let c3 = c .before .before .before in
     let inv = gone-next _ (c3 .before .before .before .before .pre .0) (c3 .before .loop .inv) (c .before .before .board-in .ensures .1) in
     sym (T→≡ _ (seen-all (c3 .before .before .before .before .pre .0) (gone-seen inv) (rw (c3 .before .before .low-bits .ensures) at (c .if1 .taken))))
-
-cleared-requires : tie.Need-cleared-requires Inv-loop μ-loop
-cleared-requires c κs = search needs
 
 loop-less : tie.Need-loop-less Inv-loop μ-loop
 loop-less c =
@@ -57,15 +45,4 @@ pub reaches-all-spec : {M : Type 1} → statement M
 reaches-all-spec =
     tie.close
     (tie.spec
-    Inv-loop
-    μ-loop
-    low-bits-requires
-    loop-holds
-    board-in-requires
-    mul-s
-    shared-slice-read-s
-    returns
-    cleared-requires
-    loop-less
-    loop-again
-    returns-2)
+    Inv-loop μ-loop (search needs) loop-holds (search needs) (search needs) shared-slice-read-s returns (search needs) loop-less loop-again returns-2)

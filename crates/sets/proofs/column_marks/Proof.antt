@@ -32,12 +32,6 @@ add-add-marks c = omega (arith, row-le _ (c .before .loop-test .taken))
 mul-add-marks : tie.Need-mul-add-marks Inv-loop μ-loop
 mul-add-marks c = omega (arith, row-le _ (c .before .loop-test .taken))
 
-sub-add-marks : tie.Need-sub-add-marks Inv-loop μ-loop
-sub-add-marks c = search needs
-
-part-add-marks-start : tie.Need-part-add-marks-start Inv-loop μ-loop
-part-add-marks-start c = search needs
-
 part-add-marks-end : tie.Need-part-add-marks-end Inv-loop μ-loop
 part-add-marks-end c = omega (arith, row-le _ (c .before .loop-test .taken))
 
@@ -45,12 +39,6 @@ add-marks-requires : tie.Need-add-marks-requires Inv-loop μ-loop
 add-marks-requires c κs =
     let c3 = c .before .before .before in
     (search needs, (sym (c3 .loop .inv .1 .0), le-of-eq (part-length _ _ _ (omega (arith, row-le _ (c .before .before .loop-test .taken))))))
-
-add-w : tie.Need-add-w Inv-loop μ-loop
-add-w c = search needs
-
-loop-less : tie.Need-loop-less Inv-loop μ-loop
-loop-less c = search needs
 
 loop-again : tie.Need-loop-again Inv-loop μ-loop
 loop-again c =
@@ -63,9 +51,6 @@ loop-again c =
       ),
     )
 
-same-length : tie.Need-same-length Inv-loop μ-loop
-same-length c = search needs
-
 returns : tie.Need-returns Inv-loop μ-loop
 returns c = let e : c .before .loop .w ≡ c .before .before .before .before .args .n = omega arith in rw e at (c .before .loop .inv .1 .1)
 
@@ -73,18 +58,5 @@ pub column-marks-spec : {M : Type 1} → statement M
 column-marks-spec =
     tie.close
     (tie.spec
-    Inv-loop
-    μ-loop
-    loop-holds
-    mul-at
-    add-add-marks
-    mul-add-marks
-    sub-add-marks
-    part-add-marks-start
-    part-add-marks-end
-    add-marks-requires
-    add-w
-    loop-less
-    loop-again
-    same-length
-    returns)
+    Inv-loop μ-loop loop-holds mul-at add-add-marks mul-add-marks (search needs) (search needs) part-add-marks-end add-marks-requires (search needs)
+    (search needs) loop-again (search needs) returns)

@@ -34,26 +34,11 @@ add-any-of c = omega (arith, row-le _ (c .loop-test .taken))
 mul-any-of : tie.Need-mul-any-of Inv-loop μ-loop
 mul-any-of c = omega (arith, row-le _ (c .loop-test .taken))
 
-sub-any-of : tie.Need-sub-any-of Inv-loop μ-loop
-sub-any-of c = search needs
-
-part-any-of-start : tie.Need-part-any-of-start Inv-loop μ-loop
-part-any-of-start c = search needs
-
 part-any-of-end : tie.Need-part-any-of-end Inv-loop μ-loop
 part-any-of-end c = omega (arith, row-le _ (c .loop-test .taken))
 
 any-of-requires : tie.Need-any-of-requires Inv-loop μ-loop
 any-of-requires c κs = le-of-eq (part-length _ _ _ (omega (arith, row-le _ (c .before .loop-test .taken))))
-
-mark-of-requires : tie.Need-mark-of-requires Inv-loop μ-loop
-mark-of-requires c κs = search needs
-
-add-w : tie.Need-add-w Inv-loop μ-loop
-add-w c = search needs
-
-loop-less : tie.Need-loop-less Inv-loop μ-loop
-loop-less c = search needs
 
 loop-again : tie.Need-loop-again Inv-loop μ-loop
 unfolding marks
@@ -74,18 +59,5 @@ pub some-rows-spec : {M : Type 1} → statement M
 some-rows-spec =
     tie.close
     (tie.spec
-    Inv-loop
-    μ-loop
-    loop-holds
-    mul-at
-    add-any-of
-    mul-any-of
-    sub-any-of
-    part-any-of-start
-    part-any-of-end
-    any-of-requires
-    mark-of-requires
-    add-w
-    loop-less
-    loop-again
-    returns)
+    Inv-loop μ-loop loop-holds mul-at add-any-of mul-any-of (search needs) (search needs) part-any-of-end any-of-requires (search needs) (search needs)
+    (search needs) loop-again returns)

@@ -31,12 +31,6 @@ add-set-of c = omega (arith, row-le _ (c .loop-test .taken))
 mul-set-of : tie.Need-mul-set-of Inv-loop μ-loop
 mul-set-of c = omega (arith, row-le _ (c .loop-test .taken))
 
-sub-set-of : tie.Need-sub-set-of Inv-loop μ-loop
-sub-set-of c = search needs
-
-part-set-of-start : tie.Need-part-set-of-start Inv-loop μ-loop
-part-set-of-start c = search needs
-
 part-set-of-end : tie.Need-part-set-of-end Inv-loop μ-loop
 part-set-of-end c = omega (arith, row-le _ (c .loop-test .taken))
 
@@ -46,27 +40,12 @@ set-of-requires c κs =
     let p = c .before .before .before .before .before .pre in
     (p .0, (omega arith, le-of-eq (part-length _ _ _ (omega (arith, row-le _ h)))))
 
-mul-sets : tie.Need-mul-sets Inv-loop μ-loop
-mul-sets c = search needs
-
-slice-write-sets : tie.Need-slice-write-sets Inv-loop μ-loop
-slice-write-sets c = search needs
-
-add-u : tie.Need-add-u Inv-loop μ-loop
-add-u c = search needs
-
-loop-less : tie.Need-loop-less Inv-loop μ-loop
-loop-less c = search needs
-
 loop-again : tie.Need-loop-again Inv-loop μ-loop
 loop-again c =
     let c3 = c .before .before .before in
     let c6 = c3 .before .before .before in
     made-turn (c3 .loop .inv) (c .before .before .loop-test .taken) (c .set-of .ensures
     ∙ set-lent (c6 .args .n) (c3 .loop .u) (c6 .args .some) (c6 .args .half .now))
-
-same-length : tie.Need-same-length Inv-loop μ-loop
-same-length c = search needs
 
 returns : tie.Need-returns Inv-loop μ-loop
 returns c = made-all (c .before .loop .inv) (c .loop-test .left)
@@ -75,20 +54,5 @@ pub write-spec : {M : Type 1} → statement M
 write-spec =
     tie.close
     (tie.spec
-    Inv-loop
-    μ-loop
-    loop-holds
-    mul-at
-    add-set-of
-    mul-set-of
-    sub-set-of
-    part-set-of-start
-    part-set-of-end
-    set-of-requires
-    mul-sets
-    slice-write-sets
-    add-u
-    loop-less
-    loop-again
-    same-length
-    returns)
+    Inv-loop μ-loop loop-holds mul-at add-set-of mul-set-of (search needs) (search needs) part-set-of-end set-of-requires (search needs) (search needs)
+    (search needs) (search needs) loop-again (search needs) returns)

@@ -10,29 +10,11 @@ use borrow.Author.Needs.{needs}
 use Rattle.steps.proofs.judge_ladders.Statement.{statement}
 use Rattle.steps.proofs.judge_ladders.Tie as tie
 
-add-at : tie.Need-add-at
-add-at c = search needs
-
-add-passes-part : tie.Need-add-passes-part
-add-passes-part c = search needs
-
-passes-part-requires : tie.Need-passes-part-requires
-passes-part-requires c κs = search needs
-
-tested-requires : tie.Need-tested-requires
-tested-requires c κs = search needs
-
-same-length : tie.Need-same-length
-same-length c = search needs
-
 returns : tie.Need-returns
 returns c =
     let c3 = c .before .before .before in
     let c11 = c3 .before .before .before .before .before .before .before .before in
     on-right _ _ (c11 .pre .0) (c3 .if1 .taken) (c .before .passes-part .ensures) (c .tested .ensures)
-
-add-passes-part-2 : tie.Need-add-passes-part-2
-add-passes-part-2 c = search needs
 
 passes-part-requires-2 : tie.Need-passes-part-requires-2
 passes-part-requires-2 c κs =
@@ -47,27 +29,12 @@ passes-part-requires-2 c κs =
       ),
     )
 
-tested-requires-2 : tie.Need-tested-requires-2
-tested-requires-2 c κs = search needs
-
-same-length-2 : tie.Need-same-length-2
-same-length-2 c = search needs
-
 returns-2 : tie.Need-returns-2
 returns-2 c =
     let c3 = c .before .before .before in
     let c6 = c3 .before .before .before in
     let c14 = c6 .before .before .before .before .before .before .before .before in
     on-left _ _ (c14 .pre .0) (c6 .if1 .left) (c3 .if2 .taken) (c .before .passes-part2 .ensures) (c .tested2 .ensures)
-
-try-window-requires : tie.Need-try-window-requires
-try-window-requires c κs = search needs
-
-same-length-3 : tie.Need-same-length-3
-same-length-3 c = search needs
-
-same-length-4 : tie.Need-same-length-4
-same-length-4 c = search needs
 
 returns-3 : tie.Need-returns-3
 returns-3 c =
@@ -76,12 +43,6 @@ returns-3 c =
     let c9 = c7 .before .before in
     let c12 = c9 .before .before .before in
     on-both-composed _ _ (c12 .if1 .left) (c9 .if2 .left) (c7 .if3 .taken) (c4 .try-window .ensures)
-
-add-joined-passes : tie.Need-add-joined-passes
-add-joined-passes c = search needs
-
-add-joined-passes-2 : tie.Need-add-joined-passes-2
-add-joined-passes-2 c = search needs
 
 joined-passes-requires : tie.Need-joined-passes-requires
 joined-passes-requires c κs =
@@ -98,17 +59,11 @@ joined-passes-requires c κs =
       links-has (f .able) n (in-part (s .args .p .settings .limit + 1) (omega arith) (omega arith)),
     )
 
-charged-requires : tie.Need-charged-requires
-charged-requires c κs = search needs
-
 tested-requires-3 : tie.Need-tested-requires-3
 unfolding charged
 tested-requires-3 c κs =
     let c16 = c .before .before .before .before .before .before .before .before .before .before .before .before .before .before .before .before in
     rw (c .charged .ensures) (omega (arith, c16 .pre .0 .tests))
-
-same-length-5 : tie.Need-same-length-5
-same-length-5 c = search needs
 
 returns-4 : tie.Need-returns-4
 returns-4 c =
@@ -123,25 +78,6 @@ pub judge-ladders-spec : {M : Type 1} → statement M
 judge-ladders-spec =
     tie.close
     (tie.spec
-    add-at
-    add-passes-part
-    passes-part-requires
-    tested-requires
-    same-length
-    returns
-    add-passes-part-2
-    passes-part-requires-2
-    tested-requires-2
-    same-length-2
-    returns-2
-    try-window-requires
-    same-length-3
-    same-length-4
-    returns-3
-    add-joined-passes
-    add-joined-passes-2
-    joined-passes-requires
-    charged-requires
-    tested-requires-3
-    same-length-5
-    returns-4)
+    (search needs) (search needs) (search needs) (search needs) (search needs) returns (search needs) passes-part-requires-2 (search needs) (search needs)
+    returns-2 (search needs) (search needs) (search needs) returns-3 (search needs) (search needs) joined-passes-requires (search needs) tested-requires-3
+    (search needs) returns-4)

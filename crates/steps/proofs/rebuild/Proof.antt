@@ -8,18 +8,6 @@ use borrow.Author.Needs.{needs}
 use Rattle.steps.proofs.rebuild.Statement.{statement}
 use Rattle.steps.proofs.rebuild.Tie as tie
 
-build-left-requires : tie.Need-build-left-requires
-build-left-requires c κs = search needs
-
-add-zero-at : tie.Need-add-zero-at
-add-zero-at c = search needs
-
-zero-at-requires : tie.Need-zero-at-requires
-zero-at-requires c κs = search needs
-
-boundary-moved-requires : tie.Need-boundary-moved-requires
-boundary-moved-requires c κs = search needs
-
 sub-charged : tie.Need-sub-charged
 sub-charged c =
     let c18 = c .before .before .before .before .before .before .before .before .before .before .before .before .before .before .before .before .before .before in
@@ -37,9 +25,6 @@ same-length c =
     let c12 = c6 .before .before .before .before .before .before in
     c6 .zero-at .kept .1 .0 ∙ c12 .build-left .kept .1 .0
 
-same-length-2 : tie.Need-same-length-2
-same-length-2 c = search needs
-
 returns : tie.Need-returns
 unfolding rebuilt
 returns c =
@@ -52,14 +37,4 @@ returns c =
 
 pub rebuild-spec : {M : Type 1} → statement M
 rebuild-spec =
-    tie.close
-    (tie.spec
-    build-left-requires
-    add-zero-at
-    zero-at-requires
-    boundary-moved-requires
-    sub-charged
-    charged-requires
-    same-length
-    same-length-2
-    returns)
+    tie.close (tie.spec (search needs) (search needs) (search needs) (search needs) sub-charged charged-requires same-length (search needs) returns)

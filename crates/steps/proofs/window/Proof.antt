@@ -7,30 +7,9 @@ use borrow.Author.Needs.{needs}
 use Rattle.steps.proofs.window.Statement.{statement}
 use Rattle.steps.proofs.window.Tie as tie
 
-add-copy-at : tie.Need-add-copy-at
-add-copy-at c = search needs
-
-add-copy-at-2 : tie.Need-add-copy-at-2
-add-copy-at-2 c = search needs
-
-copy-at-requires : tie.Need-copy-at-requires
-copy-at-requires c κs = search needs
-
-same-length : tie.Need-same-length
-same-length c = search needs
-
 returns : tie.Need-returns
 unfolding windowed windowArea
 returns c = simp (lt-leb _ _ (c .before .before .before .before .if1 .taken)) (charged-none _, c .before .before .copy-at .ensures)
-
-add-copy-at-3 : tie.Need-add-copy-at-3
-add-copy-at-3 c = search needs
-
-copy-at-requires-2 : tie.Need-copy-at-requires-2
-copy-at-requires-2 c κs = search needs
-
-same-length-2 : tie.Need-same-length-2
-same-length-2 c = search needs
 
 returns-2 : tie.Need-returns-2
 unfolding windowed windowArea
@@ -38,24 +17,6 @@ returns-2 c =
     let c5 = c .before .before .before .before .before in
     let c7 = c5 .before .before in
     simp (le-leb _ _ (c7 .if1 .left), le-ltb _ _ (c .if2 .taken)) (charged-none _, c5 .copy-at2 .ensures)
-
-add-compose-at : tie.Need-add-compose-at
-add-compose-at c = search needs
-
-add-compose-at-2 : tie.Need-add-compose-at-2
-add-compose-at-2 c = search needs
-
-compose-at-requires : tie.Need-compose-at-requires
-compose-at-requires c κs = search needs
-
-charged-requires : tie.Need-charged-requires
-charged-requires c κs = search needs
-
-same-length-3 : tie.Need-same-length-3
-same-length-3 c = search needs
-
-same-length-4 : tie.Need-same-length-4
-same-length-4 c = search needs
 
 returns-3 : tie.Need-returns-3
 unfolding windowed windowArea
@@ -72,19 +33,5 @@ pub window-spec : {M : Type 1} → statement M
 window-spec =
     tie.close
     (tie.spec
-    add-copy-at
-    add-copy-at-2
-    copy-at-requires
-    same-length
-    returns
-    add-copy-at-3
-    copy-at-requires-2
-    same-length-2
-    returns-2
-    add-compose-at
-    add-compose-at-2
-    compose-at-requires
-    charged-requires
-    same-length-3
-    same-length-4
-    returns-3)
+    (search needs) (search needs) (search needs) (search needs) returns (search needs) (search needs) (search needs) returns-2 (search needs)
+    (search needs) (search needs) (search needs) (search needs) (search needs) returns-3)

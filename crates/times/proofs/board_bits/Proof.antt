@@ -17,29 +17,8 @@ Inv-loop bits₀ v₀ bits v = Made boardBit 32 bits₀ bits v
 abbrev μ-loop : tie.MeasureT-loop
 μ-loop bits₀ v₀ bits v = 32 - v
 
-no-words-requires : tie.Need-no-words-requires Inv-loop μ-loop
-no-words-requires c κs = search needs
-
 loop-holds : tie.Need-loop-holds Inv-loop μ-loop
 loop-holds c = made-start (sym (ap length (c .no-words .ensures) ∙ length-zeros 32))
-
-cast-bits : tie.Need-cast-bits Inv-loop μ-loop
-cast-bits c = search needs
-
-shl-bits : tie.Need-shl-bits Inv-loop μ-loop
-shl-bits c = search needs
-
-mul-bits : tie.Need-mul-bits Inv-loop μ-loop
-mul-bits c = search needs
-
-array-write-bits : tie.Need-array-write-bits Inv-loop μ-loop
-array-write-bits c = search needs
-
-add-v : tie.Need-add-v Inv-loop μ-loop
-add-v c = search needs
-
-loop-less : tie.Need-loop-less Inv-loop μ-loop
-loop-less c = search needs
 
 loop-again : tie.Need-loop-again Inv-loop μ-loop
 unfolding boardBit
@@ -52,15 +31,4 @@ pub board-bits-spec : {M : Type 1} → statement M
 board-bits-spec =
     tie.close
     (tie.spec
-    Inv-loop
-    μ-loop
-    no-words-requires
-    loop-holds
-    cast-bits
-    shl-bits
-    mul-bits
-    array-write-bits
-    add-v
-    loop-less
-    loop-again
-    returns)
+    Inv-loop μ-loop (search needs) loop-holds (search needs) (search needs) (search needs) (search needs) (search needs) (search needs) loop-again returns)

@@ -22,18 +22,9 @@ abbrev μ-loop : tie.MeasureT-loop
 loop-holds : tie.Need-loop-holds Inv-loop μ-loop
 loop-holds c = (search needs, every-none _)
 
-row-in-time-requires : tie.Need-row-in-time-requires Inv-loop μ-loop
-row-in-time-requires c κs = search needs
-
 returns : tie.Need-returns Inv-loop μ-loop
 returns c = sym (every-stop _ _ _ (c .before .before .loop-test .taken) (sym (c .before .row-in-time .ensures) ∙ not-true _ (c .if1 .taken)))
     ∙ below-all _ _
-
-add-u : tie.Need-add-u Inv-loop μ-loop
-add-u c = search needs
-
-loop-less : tie.Need-loop-less Inv-loop μ-loop
-loop-less c = search needs
 
 loop-again : tie.Need-loop-again Inv-loop μ-loop
 loop-again c = (
@@ -46,14 +37,4 @@ returns-2 c = let e : c .before .loop .u ≡ c .before .before .before .args .n 
 
 pub in-time-spec : {M : Type 1} → statement M
 in-time-spec =
-    tie.close
-    (tie.spec
-    Inv-loop
-    μ-loop
-    loop-holds
-    row-in-time-requires
-    returns
-    add-u
-    loop-less
-    loop-again
-    returns-2)
+    tie.close (tie.spec Inv-loop μ-loop loop-holds (search needs) returns (search needs) (search needs) loop-again returns-2)

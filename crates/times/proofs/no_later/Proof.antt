@@ -5,11 +5,9 @@ use borrow.Author.Needs.{needs}
 use Rattle.times.proofs.no_later.Statement.{statement}
 use Rattle.times.proofs.no_later.Tie as tie
 
-wrapping-sub-u32-requires : tie.Need-wrapping-sub-u32-requires
-wrapping-sub-u32-requires c κs = search needs
-
 returns : tie.Need-returns
 returns c = no-later-is _ _ _ (c .wrapping-sub-u32 .ensures) (c .wrapping-sub-u32 .ok) (c .before .fits .y .fits)
 
 pub no-later-spec : {M : Type 1} → statement M
-no-later-spec = tie.close (tie.spec wrapping-sub-u32-requires returns)
+no-later-spec =
+    tie.close (tie.spec (search needs) returns)

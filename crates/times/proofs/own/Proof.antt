@@ -17,20 +17,8 @@ Inv-loop out₀ joined n p bits u₀ out u = (u ≤ n) × Twice (n * n) (ownWord
 abbrev μ-loop : tie.MeasureT-loop
 μ-loop out₀ joined n p bits u₀ out u = n - u
 
-board-bits-requires : tie.Need-board-bits-requires Inv-loop μ-loop
-board-bits-requires c κs = search needs
-
 loop-holds : tie.Need-loop-holds Inv-loop μ-loop
 loop-holds c = (search needs, rw zero-mul (twice-start (c .before .before .before .pre .1 .1 .0)))
-
-sub-own-row : tie.Need-sub-own-row Inv-loop μ-loop
-sub-own-row c = search needs
-
-part-own-row-start : tie.Need-part-own-row-start Inv-loop μ-loop
-part-own-row-start c = search needs
-
-part-own-row-end : tie.Need-part-own-row-end Inv-loop μ-loop
-part-own-row-end c = search needs
 
 own-row-requires : tie.Need-own-row-requires Inv-loop μ-loop
 own-row-requires c κs =
@@ -48,12 +36,6 @@ own-row-requires c κs =
       made = c4 .loop .inv .1;
     }
 
-add-u : tie.Need-add-u Inv-loop μ-loop
-add-u c = search needs
-
-loop-less : tie.Need-loop-less Inv-loop μ-loop
-loop-less c = search needs
-
 loop-again : tie.Need-loop-again Inv-loop μ-loop
 loop-again c = (omega arith, rw (add-one, suc-mul) (c .before .before .own-row .ensures))
 
@@ -70,16 +52,5 @@ pub own-spec : {M : Type 1} → statement M
 own-spec =
     tie.close
     (tie.spec
-    Inv-loop
-    μ-loop
-    board-bits-requires
-    loop-holds
-    sub-own-row
-    part-own-row-start
-    part-own-row-end
-    own-row-requires
-    add-u
-    loop-less
-    loop-again
-    same-length
-    returns)
+    Inv-loop μ-loop (search needs) loop-holds (search needs) (search needs) (search needs) own-row-requires (search needs) (search needs) loop-again
+    same-length returns)

@@ -19,52 +19,19 @@ Inv-loop out₀ bits joined n u word p at m v₀ out v = (v ≤ n) × Twice (n *
 abbrev μ-loop : tie.MeasureT-loop
 μ-loop out₀ bits joined n u word p at m v₀ out v = n - v
 
-mul-word : tie.Need-mul-word Inv-loop μ-loop
-mul-word c = search needs
-
-shared-slice-read-word : tie.Need-shared-slice-read-word Inv-loop μ-loop
-shared-slice-read-word c = search needs
-
-cast-p : tie.Need-cast-p Inv-loop μ-loop
-cast-p c = search needs
-
-mul-at : tie.Need-mul-at Inv-loop μ-loop
-mul-at c = search needs
-
-mul-m : tie.Need-mul-m Inv-loop μ-loop
-mul-m c = search needs
-
 loop-holds : tie.Need-loop-holds Inv-loop μ-loop
 loop-holds c = (search needs, rw add-zero (c .before .before .before .before .before .pre .made))
-
-mul-own-time : tie.Need-mul-own-time Inv-loop μ-loop
-mul-own-time c = search needs
 
 shared-slice-read-own-time : tie.Need-shared-slice-read-own-time Inv-loop μ-loop
 shared-slice-read-own-time c =
     let c8 = c .before .before .before .before .before .before .before .before in
     omega (arith, c .before .loop-test .taken, ap length (c8 .pre .table) ∙ length-tab boardBit _)
 
-own-time-requires : tie.Need-own-time-requires Inv-loop μ-loop
-own-time-requires c κs = search needs
-
-add-i : tie.Need-add-i Inv-loop μ-loop
-add-i c = search needs
-
-mul-out : tie.Need-mul-out Inv-loop μ-loop
-mul-out c = search needs
-
 slice-write-out : tie.Need-slice-write-out Inv-loop μ-loop
 slice-write-out c =
     let c3 = c .before .before .before in
     let c9 = c3 .before .before .before .before .before .before in
     omega (arith, cell-lt _ (c9 .pre .below) (c .before .before .loop-test .taken), c3 .loop .inv .1 .long)
-
-add-out : tie.Need-add-out Inv-loop μ-loop
-add-out c = search needs
-
-mul-out-2 : tie.Need-mul-out-2 Inv-loop μ-loop
-mul-out-2 c = search needs
 
 slice-write-out-2 : tie.Need-slice-write-out-2 Inv-loop μ-loop
 slice-write-out-2 c =
@@ -77,12 +44,6 @@ slice-write-out-2 c =
       length-set (c3 .loop .out) (c9 .args .from .0 * c9 .args .n + c3 .loop .v) (c .own-time .result),
     )
 
-add-v : tie.Need-add-v Inv-loop μ-loop
-add-v c = search needs
-
-loop-less : tie.Need-loop-less Inv-loop μ-loop
-loop-less c = search needs
-
 loop-again : tie.Need-loop-again Inv-loop μ-loop
 loop-again c =
     let c3 = c .before .before .before in
@@ -91,9 +52,6 @@ loop-again c =
     let h = c .before .before .loop-test .taken in
     let q = own-word (s .n) (s .pick .0) (s .joined .now) (s .bits .now) (s .from .0) (c3 .loop .v) (c9 .pre .table) (c9 .pre .below) h in
     (omega arith, twice-turn (c3 .loop .inv .1) (cell-lt (s .n) (c9 .pre .below) h) (c .own-time .ensures ∙ q) (omega arith))
-
-same-length : tie.Need-same-length Inv-loop μ-loop
-same-length c = search needs
 
 returns : tie.Need-returns Inv-loop μ-loop
 returns c =
@@ -104,25 +62,6 @@ pub own-row-spec : {M : Type 1} → statement M
 own-row-spec =
     tie.close
     (tie.spec
-    Inv-loop
-    μ-loop
-    mul-word
-    shared-slice-read-word
-    cast-p
-    mul-at
-    mul-m
-    loop-holds
-    mul-own-time
-    shared-slice-read-own-time
-    own-time-requires
-    add-i
-    mul-out
-    slice-write-out
-    add-out
-    mul-out-2
-    slice-write-out-2
-    add-v
-    loop-less
-    loop-again
-    same-length
-    returns)
+    Inv-loop μ-loop (search needs) (search needs) (search needs) (search needs) (search needs) loop-holds (search needs) shared-slice-read-own-time
+    (search needs) (search needs) (search needs) slice-write-out (search needs) (search needs) slice-write-out-2 (search needs) (search needs) loop-again
+    (search needs) returns)

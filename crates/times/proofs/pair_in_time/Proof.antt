@@ -26,9 +26,6 @@ mul-back c = let p = pairs (c .before) in omega (arith, p .1)
 add-back : tie.Need-add-back
 add-back c = let p = pairs (c .before) in omega (arith, p .1)
 
-mul-half : tie.Need-mul-half
-mul-half c = search needs
-
 mul-no-later : tie.Need-mul-no-later
 mul-no-later c = let p = pairs (c .before) in omega (arith, p .0)
 
@@ -43,9 +40,6 @@ mul-no-later-2 c = let p = pairs (c .before .before) in omega (arith, p .1)
 
 shared-slice-read-no-later-2 : tie.Need-shared-slice-read-no-later-2
 shared-slice-read-no-later-2 c = let p = pairs (c .before .before .before) in omega (arith, p .1)
-
-no-later-requires : tie.Need-no-later-requires
-no-later-requires c κs = search needs
 
 returns : tie.Need-returns
 returns c =
@@ -68,9 +62,6 @@ mul-no-later-4 c = let p = pairs (c .before .before .before .before .before .bef
 shared-slice-read-no-later-4 : tie.Need-shared-slice-read-no-later-4
 shared-slice-read-no-later-4 c = let p = pairs (c .before .before .before .before .before .before .before) in omega (arith, p .0)
 
-no-later-requires-2 : tie.Need-no-later-requires-2
-no-later-requires-2 c κs = search needs
-
 returns-2 : tie.Need-returns-2
 returns-2 c =
     let c3 = c .before .before .before in
@@ -83,22 +74,5 @@ pub pair-in-time-spec : {M : Type 1} → statement M
 pair-in-time-spec =
     tie.close
     (tie.spec
-    mul-there
-    add-there
-    mul-back
-    add-back
-    mul-half
-    mul-no-later
-    shared-slice-read-no-later
-    add-no-later
-    mul-no-later-2
-    shared-slice-read-no-later-2
-    no-later-requires
-    returns
-    mul-no-later-3
-    shared-slice-read-no-later-3
-    add-no-later-2
-    mul-no-later-4
-    shared-slice-read-no-later-4
-    no-later-requires-2
-    returns-2)
+    mul-there add-there mul-back add-back (search needs) mul-no-later shared-slice-read-no-later add-no-later mul-no-later-2 shared-slice-read-no-later-2
+    (search needs) returns mul-no-later-3 shared-slice-read-no-later-3 add-no-later-2 mul-no-later-4 shared-slice-read-no-later-4 (search needs) returns-2)

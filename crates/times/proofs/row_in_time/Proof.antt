@@ -21,18 +21,9 @@ abbrev μ-loop : tie.MeasureT-loop
 loop-holds : tie.Need-loop-holds Inv-loop μ-loop
 loop-holds c = (search needs, every-none _)
 
-pair-in-time-requires : tie.Need-pair-in-time-requires Inv-loop μ-loop
-pair-in-time-requires c κs = search needs
-
 returns : tie.Need-returns Inv-loop μ-loop
 unfolding belowInTime
 returns c = sym (every-stop _ _ _ (c .before .before .loop-test .taken) (sym (c .before .pair-in-time .ensures) ∙ not-true _ (c .if1 .taken)))
-
-add-v : tie.Need-add-v Inv-loop μ-loop
-add-v c = search needs
-
-loop-less : tie.Need-loop-less Inv-loop μ-loop
-loop-less c = search needs
 
 loop-again : tie.Need-loop-again Inv-loop μ-loop
 loop-again c = (
@@ -46,14 +37,4 @@ returns-2 c = let e : c .before .loop .v ≡ c .before .before .before .args .fr
 
 pub row-in-time-spec : {M : Type 1} → statement M
 row-in-time-spec =
-    tie.close
-    (tie.spec
-    Inv-loop
-    μ-loop
-    loop-holds
-    pair-in-time-requires
-    returns
-    add-v
-    loop-less
-    loop-again
-    returns-2)
+    tie.close (tie.spec Inv-loop μ-loop loop-holds (search needs) returns (search needs) (search needs) loop-again returns-2)

@@ -9,30 +9,6 @@ use borrow.Author.Needs.{needs}
 use Rattle.verdicts.proofs.is_listed.Statement.{statement}
 use Rattle.verdicts.proofs.is_listed.Tie as tie
 
-add-at : tie.Need-add-at
-add-at c = search needs
-
-mul-at : tie.Need-mul-at
-mul-at c = search needs
-
-add-is-listed : tie.Need-add-is-listed
-add-is-listed c = search needs
-
-mul-is-listed : tie.Need-mul-is-listed
-mul-is-listed c = search needs
-
-sub-is-listed : tie.Need-sub-is-listed
-sub-is-listed c = search needs
-
-part-is-listed-start : tie.Need-part-is-listed-start
-part-is-listed-start c = search needs
-
-part-is-listed-end : tie.Need-part-is-listed-end
-part-is-listed-end c = search needs
-
-is-listed-requires : tie.Need-is-listed-requires
-is-listed-requires c κs = search needs
-
 returns : tie.Need-returns
 returns c =
     let c4 = c .before .before .before .before in
@@ -41,14 +17,4 @@ returns c =
 
 pub is-listed-spec : {M : Type 1} → statement M
 is-listed-spec =
-    tie.close
-    (tie.spec
-    add-at
-    mul-at
-    add-is-listed
-    mul-is-listed
-    sub-is-listed
-    part-is-listed-start
-    part-is-listed-end
-    is-listed-requires
-    returns)
+    tie.close (tie.spec (search needs) (search needs) (search needs) (search needs) (search needs) (search needs) (search needs) (search needs) returns)

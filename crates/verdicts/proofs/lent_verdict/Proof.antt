@@ -5,14 +5,8 @@ use borrow.Author.Needs.{needs}
 use Rattle.verdicts.proofs.lent_verdict.Statement.{statement}
 use Rattle.verdicts.proofs.lent_verdict.Tie as tie
 
-rem-if1 : tie.Need-rem-if1
-rem-if1 c = search needs
-
 returns : tie.Need-returns
 returns c = cause-here _ (simp (ne-eqb _ _ (c .if1 .taken)))
-
-div-m : tie.Need-div-m
-div-m c = search needs
 
 returns-2 : tie.Need-returns-2
 returns-2 c = cause-next _ _ (simp (eq-eqb _ _ (c .before .if1 .left))) (cause-here _ (eq-eqb _ _ (c .if2 .taken)))
@@ -26,4 +20,5 @@ returns-4 c = cause-next _ _ (simp (eq-eqb _ _ (c .before .before .if1 .left))) 
     (cause-next _ _ (le-ltb _ _ (c .if3 .left)) cause-none))
 
 pub lent-verdict-spec : {M : Type 1} → statement M
-lent-verdict-spec = tie.close (tie.spec rem-if1 returns div-m returns-2 returns-3 returns-4)
+lent-verdict-spec =
+    tie.close (tie.spec (search needs) returns (search needs) returns-2 returns-3 returns-4)

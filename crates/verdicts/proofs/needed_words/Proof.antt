@@ -5,12 +5,6 @@ use borrow.Author.Needs.{needs}
 use Rattle.verdicts.proofs.needed_words.Statement.{statement}
 use Rattle.verdicts.proofs.needed_words.Tie as tie
 
-width-requires : tie.Need-width-requires
-width-requires c κs = search needs
-
-add-result : tie.Need-add-result
-add-result c = search needs
-
 mul-result : tie.Need-mul-result
 mul-result c = omega (
   arith,
@@ -22,4 +16,5 @@ returns : tie.Need-returns
 returns c = simp (c .width .ensures)
 
 pub needed-words-spec : {M : Type 1} → statement M
-needed-words-spec = tie.close (tie.spec width-requires add-result mul-result returns)
+needed-words-spec =
+    tie.close (tie.spec (search needs) (search needs) mul-result returns)

@@ -9,15 +9,9 @@ use borrow.Author.Needs.{needs}
 use Rattle.verdicts.proofs.open_verdict.Statement.{statement}
 use Rattle.verdicts.proofs.open_verdict.Tie as tie
 
-is-between-requires : tie.Need-is-between-requires
-is-between-requires c κs = search needs
-
 returns : tie.Need-returns
 unfolding openVerdict
 returns c = cause-here _ (failed-by (c .before .is-between .ensures) (c .if1 .taken))
-
-is-between-requires-2 : tie.Need-is-between-requires-2
-is-between-requires-2 c κs = search needs
 
 returns-2 : tie.Need-returns-2
 unfolding openVerdict
@@ -25,9 +19,6 @@ returns-2 c =
     let c3 = c .before .before .before in
     cause-next _ _ (passed-by (c3 .is-between .ensures) (c .before .before .if1 .left)) (cause-here _ (failed-by (c .before .is-between2 .ensures)
     (c .if2 .taken)))
-
-is-between-requires-3 : tie.Need-is-between-requires-3
-is-between-requires-3 c κs = search needs
 
 returns-3 : tie.Need-returns-3
 unfolding openVerdict
@@ -118,16 +109,5 @@ pub open-verdict-spec : {M : Type 1} → statement M
 open-verdict-spec =
     tie.close
     (tie.spec
-    is-between-requires
-    returns
-    is-between-requires-2
-    returns-2
-    is-between-requires-3
-    returns-3
-    room-verdict-requires
-    returns-4
-    returns-5
-    is-clean-requires
-    returns-6
-    room-verdict-requires-2
-    returns-7)
+    (search needs) returns (search needs) returns-2 (search needs) returns-3 room-verdict-requires returns-4 returns-5 is-clean-requires returns-6
+    room-verdict-requires-2 returns-7)

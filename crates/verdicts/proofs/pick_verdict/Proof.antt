@@ -11,9 +11,6 @@ use borrow.Author.Needs.{needs}
 use Rattle.verdicts.proofs.pick_verdict.Statement.{statement}
 use Rattle.verdicts.proofs.pick_verdict.Tie as tie
 
-is-sound-requires : tie.Need-is-sound-requires
-is-sound-requires c κs = search needs
-
 returns : tie.Need-returns
 unfolding pickVerdict
 returns c = cause-here _ (failed-by (c .before .is-sound .ensures) (c .if1 .taken))
@@ -139,15 +136,4 @@ pub pick-verdict-spec : {M : Type 1} → statement M
 pick-verdict-spec =
     tie.close
     (tie.spec
-    is-sound-requires
-    returns
-    returns-2
-    returns-3
-    is-clean-requires
-    returns-4
-    is-short-requires
-    returns-5
-    returns-6
-    is-listed-requires
-    returns-7
-    returns-8)
+    (search needs) returns returns-2 returns-3 is-clean-requires returns-4 is-short-requires returns-5 returns-6 is-listed-requires returns-7 returns-8)

@@ -6,9 +6,6 @@ use borrow.Author.Needs.{needs}
 use Rattle.verdicts.proofs.room_verdict.Statement.{statement}
 use Rattle.verdicts.proofs.room_verdict.Tie as tie
 
-is-short-requires : tie.Need-is-short-requires
-is-short-requires c κs = search needs
-
 returns : tie.Need-returns
 returns c = cause-here _ (sym (c .before .is-short .ensures) ∙ c .if1 .taken)
 
@@ -16,4 +13,5 @@ returns-2 : tie.Need-returns-2
 returns-2 c = cause-next _ _ (sym (c .before .is-short .ensures) ∙ c .if1 .left) cause-none
 
 pub room-verdict-spec : {M : Type 1} → statement M
-room-verdict-spec = tie.close (tie.spec is-short-requires returns returns-2)
+room-verdict-spec =
+    tie.close (tie.spec (search needs) returns returns-2)

@@ -6,14 +6,8 @@ use borrow.Author.Needs.{needs}
 use Rattle.verdicts.proofs.run_verdict.Statement.{statement}
 use Rattle.verdicts.proofs.run_verdict.Tie as tie
 
-is-short-requires : tie.Need-is-short-requires
-is-short-requires c κs = search needs
-
 returns : tie.Need-returns
 returns c = cause-here _ (sym (c .before .is-short .ensures) ∙ c .if1 .taken)
-
-are-clean-requires : tie.Need-are-clean-requires
-are-clean-requires c κs = search needs
 
 returns-2 : tie.Need-returns-2
 returns-2 c =
@@ -28,4 +22,4 @@ returns-3 c =
 
 pub run-verdict-spec : {M : Type 1} → statement M
 run-verdict-spec =
-    tie.close (tie.spec is-short-requires returns are-clean-requires returns-2 returns-3)
+    tie.close (tie.spec (search needs) returns (search needs) returns-2 returns-3)

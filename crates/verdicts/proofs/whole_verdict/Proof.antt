@@ -9,15 +9,9 @@ use borrow.Author.Needs.{needs}
 use Rattle.verdicts.proofs.whole_verdict.Statement.{statement}
 use Rattle.verdicts.proofs.whole_verdict.Tie as tie
 
-is-between-requires : tie.Need-is-between-requires
-is-between-requires c κs = search needs
-
 returns : tie.Need-returns
 unfolding wholeVerdict
 returns c = cause-here _ (failed-by (c .before .is-between .ensures) (c .if1 .taken))
-
-is-between-requires-2 : tie.Need-is-between-requires-2
-is-between-requires-2 c κs = search needs
 
 returns-2 : tie.Need-returns-2
 unfolding wholeVerdict
@@ -30,9 +24,6 @@ lent-verdict-requires : tie.Need-lent-verdict-requires
 lent-verdict-requires c κs =
     let c3 = c .before .before .before in
     let b = between-says _ _ _ (holds-by (c3 .is-between .ensures) (c .before .before .if1 .left)) .0 in omega arith
-
-enum-told : tie.Need-enum-told
-enum-told c = search needs
 
 div-run-verdict : tie.Need-div-run-verdict
 div-run-verdict c =
@@ -49,9 +40,6 @@ run-verdict-requires c κs =
     let w = c9 .args .words .now in
     let l = lent-sound n w (none-holds (lentCauses n w) tt .0 (sym (c .before .before .lent-verdict .ensures) ∙ ap verdictSays (c .enum-told .given .1))) in
     (between-says _ _ _ (holds-by (c6 .is-between .ensures) (c5 .if1 .left)) .1, l .2, omega (arith, l .0))
-
-enum-known-c : tie.Need-enum-known-c
-enum-known-c c = search needs
 
 returns-3 : tie.Need-returns-3
 unfolding wholeVerdict
@@ -85,14 +73,5 @@ pub whole-verdict-spec : {M : Type 1} → statement M
 whole-verdict-spec =
     tie.close
     (tie.spec
-    is-between-requires
-    returns
-    is-between-requires-2
-    returns-2
-    lent-verdict-requires
-    enum-told
-    div-run-verdict
-    run-verdict-requires
-    enum-known-c
-    returns-3
+    (search needs) returns (search needs) returns-2 lent-verdict-requires (search needs) div-run-verdict run-verdict-requires (search needs) returns-3
     returns-4)

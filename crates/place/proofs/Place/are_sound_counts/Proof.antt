@@ -8,19 +8,14 @@ use borrow.Author.Needs.{needs}
 use Rattle.place.proofs.Place.are_sound_counts.Statement.{statement}
 use Rattle.place.proofs.Place.are_sound_counts.Tie as tie
 
-mul-if1 : tie.Need-mul-if1
-mul-if1 c = search needs
-
 returns : tie.Need-returns
 unfolding soundCounts
 returns c = and-stop _ (lt-leb _ _ (c .if1 .taken))
-
-mul-result : tie.Need-mul-result
-mul-result c = search needs
 
 returns-2 : tie.Need-returns-2
 unfolding soundCounts
 returns-2 c = and-step (le-leb _ _ (c .before .before .if1 .left)) refl
 
 pub are-sound-counts-spec : {M : Type 1} → statement M
-are-sound-counts-spec = tie.close (tie.spec mul-if1 returns mul-result returns-2)
+are-sound-counts-spec =
+    tie.close (tie.spec (search needs) returns (search needs) returns-2)

@@ -5,12 +5,10 @@ use borrow.Author.Needs.{needs}
 use Rattle.place.proofs.Place.charged.Statement.{statement}
 use Rattle.place.proofs.Place.charged.Tie as tie
 
-add-t6 : tie.Need-add-t6
-add-t6 c = search needs
-
 returns : tie.Need-returns
 unfolding charged
 returns c = refl
 
 pub charged-spec : {M : Type 1} → statement M
-charged-spec = tie.close (tie.spec add-t6 returns)
+charged-spec =
+    tie.close (tie.spec (search needs) returns)

@@ -8,15 +8,9 @@ use borrow.Author.Needs.{needs}
 use Rattle.place.proofs.Place.is_in_range.Statement.{statement}
 use Rattle.place.proofs.Place.is_in_range.Tie as tie
 
-is-between-requires : tie.Need-is-between-requires
-is-between-requires c κs = search needs
-
 returns : tie.Need-returns
 unfolding inRange
 returns c = and-stop _ (sym (c .before .is-between .ensures) ∙ not-true _ (c .if1 .taken))
-
-is-between-requires-2 : tie.Need-is-between-requires-2
-is-between-requires-2 c κs = search needs
 
 returns-2 : tie.Need-returns-2
 unfolding inRange
@@ -24,9 +18,6 @@ returns-2 c =
     let c3 = c .before .before .before in
     and-step (sym (c3 .is-between .ensures) ∙ not-false _ (c .before .before .if1 .left))
     (and-stop _ (sym (c .before .is-between2 .ensures) ∙ not-true _ (c .if2 .taken)))
-
-is-between-requires-3 : tie.Need-is-between-requires-3
-is-between-requires-3 c κs = search needs
 
 returns-3 : tie.Need-returns-3
 unfolding inRange
@@ -36,11 +27,4 @@ returns-3 c =
 
 pub is-in-range-spec : {M : Type 1} → statement M
 is-in-range-spec =
-    tie.close
-    (tie.spec
-    is-between-requires
-    returns
-    is-between-requires-2
-    returns-2
-    is-between-requires-3
-    returns-3)
+    tie.close (tie.spec (search needs) returns (search needs) returns-2 (search needs) returns-3)

@@ -9,9 +9,6 @@ use borrow.Author.Needs.{needs}
 use Rattle.place.proofs.Place.is_sound.Statement.{statement}
 use Rattle.place.proofs.Place.is_sound.Tie as tie
 
-is-in-range-requires : tie.Need-is-in-range-requires
-is-in-range-requires c κs = search needs
-
 returns : tie.Need-returns
 unfolding soundPlace
 returns c = and-stop _ (sym (c .before .is-in-range .ensures) ∙ not-true _ (c .if1 .taken))
@@ -26,18 +23,12 @@ returns-2 c =
     and-step (sym (c3 .is-in-range .ensures) ∙ not-false _ (c .before .before .if1 .left))
     (and-stop _ (sym (c .before .is-sound-window .ensures) ∙ not-true _ (c .if2 .taken)))
 
-is-sound-start-requires : tie.Need-is-sound-start-requires
-is-sound-start-requires c κs = search needs
-
 returns-3 : tie.Need-returns-3
 unfolding soundPlace
 returns-3 c =
     and-step (sym (c .before .before .before .before .before .is-in-range .ensures) ∙ not-false _ (c .before .before .before .before .if1 .left))
     (and-step (sym (c .before .before .before .is-sound-window .ensures) ∙ not-false _ (c .before .before .if2 .left))
     (and-stop _ (sym (c .before .is-sound-start .ensures) ∙ not-true _ (c .if3 .taken))))
-
-are-sound-marks-requires : tie.Need-are-sound-marks-requires
-are-sound-marks-requires c κs = search needs
 
 returns-4 : tie.Need-returns-4
 unfolding soundPlace
@@ -80,13 +71,4 @@ pub is-sound-spec : {M : Type 1} → statement M
 is-sound-spec =
     tie.close
     (tie.spec
-    is-in-range-requires
-    returns
-    is-sound-window-requires
-    returns-2
-    is-sound-start-requires
-    returns-3
-    are-sound-marks-requires
-    returns-4
-    are-sound-counts-requires
-    returns-5)
+    (search needs) returns is-sound-window-requires returns-2 (search needs) returns-3 (search needs) returns-4 are-sound-counts-requires returns-5)

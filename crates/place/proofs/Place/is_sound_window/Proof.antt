@@ -15,12 +15,6 @@ returns-2 : tie.Need-returns-2
 unfolding soundWindow
 returns-2 c = and-step (le-leb _ _ (c .before .before .before .if1 .left)) (and-stop _ (lt-leb _ _ (c .if2 .taken)))
 
-add-is-between : tie.Need-add-is-between
-add-is-between c = search needs
-
-is-between-requires : tie.Need-is-between-requires
-is-between-requires c κs = search needs
-
 returns-3 : tie.Need-returns-3
 unfolding soundWindow
 returns-3 c =
@@ -29,4 +23,4 @@ returns-3 c =
 
 pub is-sound-window-spec : {M : Type 1} → statement M
 is-sound-window-spec =
-    tie.close (tie.spec returns returns-2 add-is-between is-between-requires returns-3)
+    tie.close (tie.spec returns returns-2 (search needs) (search needs) returns-3)

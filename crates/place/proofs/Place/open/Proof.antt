@@ -4,12 +4,10 @@ use borrow.Author.Needs.{needs}
 use Rattle.place.proofs.Place.open.Statement.{statement}
 use Rattle.place.proofs.Place.open.Tie as tie
 
-of-measure-requires : tie.Need-of-measure-requires
-of-measure-requires c κs = search needs
-
 returns : tie.Need-returns
 unfolding fresh
 returns c = rw (c .before .of-measure .ensures)
 
 pub open-spec : {M : Type 1} → statement M
-open-spec = tie.close (tie.spec of-measure-requires returns)
+open-spec =
+    tie.close (tie.spec (search needs) returns)

@@ -5,12 +5,10 @@ use borrow.Author.Needs.{needs}
 use Rattle.place.proofs.Place.picks_taken.Statement.{statement}
 use Rattle.place.proofs.Place.picks_taken.Tie as tie
 
-add-t6 : tie.Need-add-t6
-add-t6 c = search needs
-
 returns : tie.Need-returns
 unfolding picksTaken
 returns c = refl
 
 pub picks-taken-spec : {M : Type 1} → statement M
-picks-taken-spec = tie.close (tie.spec add-t6 returns)
+picks-taken-spec =
+    tie.close (tie.spec (search needs) returns)

@@ -5,12 +5,10 @@ use borrow.Author.Needs.{needs}
 use Rattle.place.proofs.Place.start_moved.Statement.{statement}
 use Rattle.place.proofs.Place.start_moved.Tie as tie
 
-add-t6 : tie.Need-add-t6
-add-t6 c = search needs
-
 returns : tie.Need-returns
 unfolding startMoved
 returns c = refl
 
 pub start-moved-spec : {M : Type 1} → statement M
-start-moved-spec = tie.close (tie.spec add-t6 returns)
+start-moved-spec =
+    tie.close (tie.spec (search needs) returns)

@@ -4,15 +4,10 @@ use borrow.Author.Needs.{needs}
 use Rattle.place.proofs.Place.tested.Statement.{statement}
 use Rattle.place.proofs.Place.tested.Tie as tie
 
-add-t7 : tie.Need-add-t7
-add-t7 c = search needs
-
-with-requires : tie.Need-with-requires
-with-requires c κs = search needs
-
 returns : tie.Need-returns
 unfolding tested
 returns c = rw (c .with .ensures)
 
 pub tested-spec : {M : Type 1} → statement M
-tested-spec = tie.close (tie.spec add-t7 with-requires returns)
+tested-spec =
+    tie.close (tie.spec (search needs) (search needs) returns)
