@@ -22,8 +22,8 @@ pick-by-pick = online
 pub whole-runs : WholeRuns
 whole-runs = whole
 
-pub table : TableMarks
-table = table-marks-all
+pub table-marks : TableMarks
+table-marks = table-marks-all
 
 pub table-words : TableRest
 table-words = table-words-are

@@ -6,8 +6,7 @@ use Prim.Native.Nat.{ℕ, _+_, _*_, _/_, _≤_}
 use lib.Dec.{eqb}
 use lib.ListN.{length, take}
 use Rattle.lists.specs.Tab.{zeros}
-use Rattle.measures.specs.Kit.{widthOf}
-use Rattle.area.specs.Parts.{part}
+use Rattle.area.specs.Parts.{widthOf, part}
 use Rattle.place.specs.declared.Place.{Place}
 use Rattle.verdicts.specs.Verdicts.{needed, openVerdict, pickVerdict, wholeVerdict}
 use Rattle.calls.specs.Calls.{openSays, openLeaves, pickSays, pickLeaves, wholeSays, wholeLeaves}

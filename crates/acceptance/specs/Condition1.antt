@@ -8,7 +8,6 @@ use Prim.Native.Nat.{ℕ, _≤_}
 use lib.ListN.{length}
 use Rattle.model.specs.Causes.{Among}
 use Rattle.model.specs.Recording.{Recording}
-use Rattle.model.specs.Causes.{Among}
 use Rattle.place.specs.declared.Place.{Place}
 use Rattle.place.specs.Places.{nowhere, Sound}
 use Rattle.verdicts.specs.Verdicts.{wholeVerdict}

@@ -18,7 +18,7 @@
 --       over the list that was handed over or, in a whole run, over the union of all picks (`law/specs/Claim2.Ran .footprint`)
 --   "and at the end of each whole-recording run": Condition2.WholeRuns; in whatever area: Area.AnyArea
 --   "the table of reach marks exactly the pairs joined by a journey": Condition2.TableMarks, TableRest
---   "provided, pick by pick, that record and area come back as the last call left them": `after` of `law/specs/Claim2`, and the events of
+--   "provided, pick by pick, that record and area come back as the last call left them": `afterPicks` of `law/specs/Claim2`, and the events of
 --       `numbers/specs/Events`, hand each call what the last one left; stopped and started at any pick: Condition2.StopAndStart
 --   "Compositions and tests are those of the walk in document 01": Condition2.CountsPickByPick, CountsWhole
 --   "at most 4(m - 1) and 2m for m picks": Condition2.PickByPickBounded, WholeRunsBounded
@@ -34,7 +34,7 @@
 --       table": Condition2.PickByPick, WholeRuns, TableMarks; "leaves its area idle": Area.EachPart; "number 4 for everyone": Condition1.OpeningExactly and
 --       the other four. docs/CLAIMS.md names the edit of each
 --   3, the ten cases: Cases.CasesAnswered, CasesAnywhere, CasesRight
---   4, facts shared by the measures with the composition as a parameter: `law/specs/Faithful`, `Ladders`, `MinWalk`, `MaxWalk`, over any kit
+--   4, facts shared by the measures with the composition as a parameter: `law/specs/Faithful`, `Ladders`, `Invariants`, over any kit
 --   5, condition 3 is there: Condition3.Condition3
 pub mod Condition1
 pub mod Condition2

@@ -1,47 +1,65 @@
-// Parts of a lent area: part i, of E words, begins at word (i - 1) × E, for i from 1 on. Each function but `zero_first` changes one part at most.
+// Parts of a lent area: part i, of E words, begins at word (i - 1) × E, for i from 1 on. Each function but `zero_first` changes one part at most. A part is
+// found by E and its table lent by the table's own size, which is as large today.
 // The later table that a composition reads is copied first: a part that is written and one that is read cannot be lent at the same time.
 ghost use mathlib.Core.Path.{_≡_};
 ghost use mathlib.Core.Logic.{_≢_};
-ghost use Prim.Native.Nat.{_+_, _*_, _^_, _≤_, _<_};
-ghost use lib.ListN.{length};
-ghost use Rattle.links.specs.Tables.{compose};
-ghost use Rattle.times.specs.Times.{composeTimes};
-ghost use Rattle.measures.specs.Kit.{kit, widthOf, ownOf, joinOf, passOf};
-ghost use Rattle.area.specs.Parts.{Has, part, putPart, composeAt, copyAt, zeroAt, ownAt, zeroed};
+ghost use Prim.Native.Nat.{_-_, _*_, _^_, _≤_, _<_};
+ghost use lib.ListN.{length, take, drop};
+ghost use Rattle.lists.specs.Tab.{splice};
+ghost use Rattle.measures.specs.Kit.{hops01, kit, sizeOf, ownOf, joinOf, passOf};
+ghost use Rattle.area.specs.Parts.{widthOf, Has, tableAt, putTable, composeAt, copyAt, zeroAt, ownAt, zeroed};
 use model::Pick;
 
-// ---- copies of parts
+// E: the words of a part.
+pub fn width(measure: usize, n: usize) -> usize
+    requires { ⌜ n ≤ 32 ⌝ }
+    ensures { λ r. ⌜ r ≡ widthOf measure n ⌝ }
+{
+    measures::size(measure, n)
+}
 
-// Copies part i over out, which has the words of a part.
-fn take_part(out: &mut [u32], area: &[u32], e: usize, i: usize)
-    requires { ⌜ (e ≡ length (now out)) × Has e (length (now area)) i ⌝ }
-    ensures { λ _. ⌜ now (out .exit) ≡ part e (now (area .entry)) i ⌝ }
+// ---- tables copied out of a part and into one: k words each, from where the part begins by e, which is E
+
+fn take_table(out: &mut [u32], area: &[u32], e: usize, k: usize, i: usize)
+    requires { ⌜ (k ≡ length (now out)) × (k ≤ e) × Has e (length (now area)) i ⌝ }
+    ensures { λ _. ⌜ now (out .exit) ≡ take k (drop ((i - 1) * e) (now (area .entry))) ⌝ }
 {
     let at = (i - 1) * e;
-    lists::copy_over(out, &area[at..at + e], e);
+    lists::copy_over(out, &area[at..at + k], k);
+}
+
+fn write_table(area: &mut [u32], words: &[u32], e: usize, k: usize, d: usize)
+    requires { ⌜ (k ≡ length (now words)) × (k ≤ e) × Has e (length (now area)) d ⌝ }
+    ensures { λ _. ⌜ now (area .exit) ≡ splice ((d - 1) * e) k (now (words .entry)) (now (area .entry)) ⌝ }
+{
+    let at = (d - 1) * e;
+    lists::copy_over(&mut area[at..at + k], words, k);
 }
 
 // ---- one part written
 
-// The e words become part d.
-pub fn put_part(area: &mut [u32], words: &[u32], e: usize, d: usize)
-    requires { ⌜ (e ≡ length (now words)) × Has e (length (now area)) d ⌝ }
-    ensures { λ _. ⌜ now (area .exit) ≡ putPart e (now (area .entry)) d (now (words .entry)) ⌝ }
+// The words become the table of part d.
+pub fn put_table(area: &mut [u32], words: &[u32], measure: usize, n: usize, d: usize)
+    requires { ⌜ (n ≤ 32) × (sizeOf measure n ≡ length (now words)) × Has (widthOf measure n) (length (now area)) d ⌝ }
+    ensures { λ _. ⌜ now (area .exit) ≡ putTable (kit measure n) (now (area .entry)) d (now (words .entry)) ⌝ }
 {
-    let at = (d - 1) * e;
-    lists::copy_over(&mut area[at..at + e], words, e);
+    let e = width(measure, n);
+    let k = measures::size(measure, n);
+    write_table(area, words, e, k, d);
 }
 
-// Composes words, the later table, onto part d, the earlier: for the measures whose tables compose word by word.
+// Composes words, the later table, onto the table of part d, the earlier: for the measures whose tables compose word by word.
 fn compose_with(area: &mut [u32], words: &[u32], measure: usize, n: usize, d: usize)
-    requires { ⌜ (measure ≢ 4) × (measure ≢ 3) × (n ≤ length (now words)) × Has n (length (now area)) d ⌝ }
-    ensures { λ _. ⌜ now (area .exit) ≡ putPart n (now (area .entry)) d (joinOf measure n (part n (now (area .entry)) d) (now (words .entry))) ⌝ }
+    requires { ⌜ (n ≤ 32) × (measure ≢ 4) × (measure ≢ 3) × (n ≤ length (now words)) × Has (widthOf measure n) (length (now area)) d ⌝ }
+    ensures { λ _. ⌜ now (area .exit)
+        ≡ putTable (kit measure n) (now (area .entry)) d (joinOf measure n (tableAt (kit measure n) (now (area .entry)) d) (now (words .entry))) ⌝ }
 {
-    let at = (d - 1) * n;
+    let e = width(measure, n);
+    let at = (d - 1) * e;
     measures::compose_words(&mut area[at..at + n], words, measure, n);
 }
 
-// The same of part r, by way of right, which takes its copy.
+// The same of the table of part r, by way of right, which takes its copy.
 fn compose_words_by(
     area: &mut [u32],
     right: &mut [u32],
@@ -50,46 +68,50 @@ fn compose_words_by(
     d: usize,
     r: usize,
 )
-    requires { ⌜ (measure ≢ 4) × (measure ≢ 3) × (n ≡ length (now right)) × Has n (length (now area)) d × Has n (length (now area)) r ⌝ }
-    ensures { λ _. ⌜ now (area .exit) ≡ putPart n (now (area .entry)) d (joinOf measure n (part n (now (area .entry)) d) (part n (now (area .entry)) r)) ⌝ }
+    requires { ⌜ (n ≤ 32) × (measure ≢ 4) × (measure ≢ 3) × (n ≡ length (now right))
+        × Has (widthOf measure n) (length (now area)) d × Has (widthOf measure n) (length (now area)) r ⌝ }
+    ensures { λ _. ⌜ now (area .exit) ≡ composeAt (kit measure n) (now (area .entry)) d d r ⌝ }
 {
-    take_part(right, area, n, r);
+    let e = width(measure, n);
+    take_table(right, area, e, n, r);
     compose_with(area, right, measure, n, d);
 }
 
 // Composes part r onto part d under measures 1 and 2. The copy of so few words costs less in an array of its own than in one that is lent: the compiler
 // then knows that it overlaps nothing.
 fn compose_words(area: &mut [u32], measure: usize, n: usize, d: usize, r: usize)
-    requires { ⌜ (n ≤ 32) × (measure ≢ 4) × (measure ≢ 3) × Has n (length (now area)) d × Has n (length (now area)) r ⌝ }
-    ensures { λ _. ⌜ now (area .exit) ≡ putPart n (now (area .entry)) d (joinOf measure n (part n (now (area .entry)) d) (part n (now (area .entry)) r)) ⌝ }
+    requires { ⌜ (n ≤ 32) × (measure ≢ 4) × (measure ≢ 3)
+        × Has (widthOf measure n) (length (now area)) d × Has (widthOf measure n) (length (now area)) r ⌝ }
+    ensures { λ _. ⌜ now (area .exit) ≡ composeAt (kit measure n) (now (area .entry)) d d r ⌝ }
 {
     let mut right = lists::no_words();
     compose_words_by(area, &mut right[0..n], measure, n, d, r);
 }
 
-// Composes part r onto part d under measure 3, by way of right, which takes the copy of part r.
+// Composes part r onto part d under measure 3, by way of right, which takes the copy of the later table.
 fn compose_links(area: &mut [u32], right: &mut [u32], n: usize, d: usize, r: usize)
-    requires { ⌜ (n ≤ 32) × (n ≡ length (now right)) × Has n (length (now area)) d × Has n (length (now area)) r ⌝ }
-    ensures { λ _. ⌜ now (area .exit) ≡ putPart n (now (area .entry)) d (compose n (part n (now (area .entry)) d) (part n (now (area .entry)) r)) ⌝ }
+    requires { ⌜ (n ≤ 32) × (n ≡ length (now right)) × Has (widthOf 3 n) (length (now area)) d × Has (widthOf 3 n) (length (now area)) r ⌝ }
+    ensures { λ _. ⌜ now (area .exit) ≡ composeAt (kit 3 n) (now (area .entry)) d d r ⌝ }
 {
-    take_part(right, area, n, r);
-    let at = (d - 1) * n;
+    let e = width(3, n);
+    take_table(right, area, e, n, r);
+    let at = (d - 1) * e;
     joins::join_over(&mut area[at..at + n], right, n);
 }
 
 // The same under measure 4.
 fn compose_times(area: &mut [u32], right: &mut [u32], n: usize, d: usize, r: usize)
-    requires { ⌜ (n ≤ 32) × (n * n + n * n ≡ length (now right)) × Has (n * n + n * n) (length (now area)) d × Has (n * n + n * n) (length (now area)) r ⌝ }
-    ensures { λ _. ⌜ now (area .exit)
-        ≡ putPart (n * n + n * n) (now (area .entry)) d (composeTimes n (part (n * n + n * n) (now (area .entry)) d) (part (n * n + n * n) (now (area .entry)) r)) ⌝ }
+    requires { ⌜ (n ≤ 32) × (sizeOf 4 n ≡ length (now right)) × Has (widthOf 4 n) (length (now area)) d × Has (widthOf 4 n) (length (now area)) r ⌝ }
+    ensures { λ _. ⌜ now (area .exit) ≡ composeAt (kit 4 n) (now (area .entry)) d d r ⌝ }
 {
-    let e = n * n + n * n;
-    take_part(right, area, e, r);
+    let e = width(4, n);
+    let k = measures::size(4, n);
+    take_table(right, area, e, k, r);
     let at = (d - 1) * e;
-    folds::compose_over(&mut area[at..at + e], right, n);
+    folds::compose_over(&mut area[at..at + k], right, n);
 }
 
-// Composes part r, the later, onto part d, the earlier. right has a part's words; what it holds before and after is free.
+// Composes the table of part r, the later, onto that of part d, the earlier. right has a table's words; what it holds before and after is free.
 pub fn compose_onto(
     area: &mut [u32],
     right: &mut [u32],
@@ -98,7 +120,7 @@ pub fn compose_onto(
     d: usize,
     r: usize,
 )
-    requires { ⌜ (n ≤ 32) × (widthOf measure n ≡ length (now right))
+    requires { ⌜ (n ≤ 32) × (sizeOf measure n ≡ length (now right))
         × Has (widthOf measure n) (length (now area)) d × Has (widthOf measure n) (length (now area)) r ⌝ }
     ensures { λ _. ⌜ now (area .exit) ≡ composeAt (kit measure n) (now (area .entry)) d d r ⌝ }
 {
@@ -113,7 +135,7 @@ pub fn compose_onto(
     compose_words(area, measure, n, d, r);
 }
 
-// The same where part r is the own table of pick r. Under measures 1 and 2 that is the pick's words, which are composed from where they are.
+// The same where the table of part r is the own table of pick r. Under measures 1 and 2 that is the pick's words, which are composed from where they are.
 pub fn compose_own(
     area: &mut [u32],
     words: &[u32],
@@ -123,9 +145,9 @@ pub fn compose_own(
     d: usize,
     r: usize,
 )
-    requires { ⌜ (n ≤ 32) × (widthOf measure n ≡ length (now right))
+    requires { ⌜ (n ≤ 32) × (sizeOf measure n ≡ length (now right))
         × Has (widthOf measure n) (length (now area)) d × Has (widthOf measure n) (length (now area)) r
-        × (n ≡ length (now words)) × (part (widthOf measure n) (now area) r ≡ ownOf 31 measure n r (now words)) ⌝ }
+        × (n ≡ length (now words)) × (tableAt (kit measure n) (now area) r ≡ ownOf hops01 measure n r (now words)) ⌝ }
     ensures { λ _. ⌜ now (area .exit) ≡ composeAt (kit measure n) (now (area .entry)) d d r ⌝ }
 {
     if measure == 4 {
@@ -139,44 +161,45 @@ pub fn compose_own(
     compose_with(area, words, measure, n, d);
 }
 
-// Copies by way of words, which has a part's words and takes the copy.
-fn copy_by(area: &mut [u32], words: &mut [u32], e: usize, d: usize, l: usize)
-    requires { ⌜ (e ≡ length (now words)) × (Has e (length (now area)) d × Has e (length (now area)) l) ⌝ }
-    ensures { λ _. ⌜ now (area .exit) ≡ putPart e (now (area .entry)) d (part e (now (area .entry)) l) ⌝ }
+// Copies by way of words, which takes the copy. Both sizes are handed in, so that what is compiled for either array below is one move of memory.
+fn copy_by(area: &mut [u32], words: &mut [u32], e: usize, k: usize, d: usize, l: usize)
+    requires { ⌜ (k ≡ length (now words)) × (k ≤ e) × Has e (length (now area)) d × Has e (length (now area)) l ⌝ }
+    ensures { λ _. ⌜ now (area .exit) ≡ splice ((d - 1) * e) k (take k (drop ((l - 1) * e) (now (area .entry)))) (now (area .entry)) ⌝ }
 {
-    take_part(words, area, e, l);
-    put_part(area, words, e, d);
+    take_table(words, area, e, k, l);
+    write_table(area, words, e, k, d);
 }
 
 // Copies where a table is no longer than 32 words.
-fn copy_links(area: &mut [u32], e: usize, d: usize, l: usize)
-    requires { ⌜ (e ≤ 32) × (Has e (length (now area)) d × Has e (length (now area)) l) ⌝ }
-    ensures { λ _. ⌜ now (area .exit) ≡ putPart e (now (area .entry)) d (part e (now (area .entry)) l) ⌝ }
+fn copy_links(area: &mut [u32], e: usize, k: usize, d: usize, l: usize)
+    requires { ⌜ (k ≤ 32) × (k ≤ e) × Has e (length (now area)) d × Has e (length (now area)) l ⌝ }
+    ensures { λ _. ⌜ now (area .exit) ≡ splice ((d - 1) * e) k (take k (drop ((l - 1) * e) (now (area .entry)))) (now (area .entry)) ⌝ }
 {
     let mut words = lists::no_words();
-    copy_by(area, &mut words[0..e], e, d, l);
+    copy_by(area, &mut words[0..k], e, k, d, l);
 }
 
 // Copies a table of up to 2048 words, as only measure 4 has.
-fn copy_times(area: &mut [u32], e: usize, d: usize, l: usize)
-    requires { ⌜ (e ≤ 2048) × (Has e (length (now area)) d × Has e (length (now area)) l) ⌝ }
-    ensures { λ _. ⌜ now (area .exit) ≡ putPart e (now (area .entry)) d (part e (now (area .entry)) l) ⌝ }
+fn copy_times(area: &mut [u32], e: usize, k: usize, d: usize, l: usize)
+    requires { ⌜ (k ≤ 2048) × (k ≤ e) × Has e (length (now area)) d × Has e (length (now area)) l ⌝ }
+    ensures { λ _. ⌜ now (area .exit) ≡ splice ((d - 1) * e) k (take k (drop ((l - 1) * e) (now (area .entry)))) (now (area .entry)) ⌝ }
 {
     let mut words = lists::no_times();
-    copy_by(area, &mut words[0..e], e, d, l);
+    copy_by(area, &mut words[0..k], e, k, d, l);
 }
 
-// Part d becomes part l; d may be l.
+// The table of part l becomes that of part d; d may be l.
 pub fn copy_part(area: &mut [u32], measure: usize, n: usize, d: usize, l: usize)
     requires { ⌜ (n ≤ 32) × (Has (widthOf measure n) (length (now area)) d × Has (widthOf measure n) (length (now area)) l) ⌝ }
     ensures { λ _. ⌜ now (area .exit) ≡ copyAt (kit measure n) (now (area .entry)) d l ⌝ }
 {
-    let e = measures::width(measure, n);
+    let e = width(measure, n);
+    let k = measures::size(measure, n);
     if measure == 4 {
-        copy_times(area, e, d, l);
+        copy_times(area, e, k, d, l);
         return;
     }
-    copy_links(area, e, d, l);
+    copy_links(area, e, k, d, l);
 }
 
 // Part d becomes zero.
@@ -184,36 +207,45 @@ pub fn zero_part(area: &mut [u32], measure: usize, n: usize, d: usize)
     requires { ⌜ (n ≤ 32) × Has (widthOf measure n) (length (now area)) d ⌝ }
     ensures { λ _. ⌜ now (area .exit) ≡ zeroAt (kit measure n) (now (area .entry)) d ⌝ }
 {
-    let e = measures::width(measure, n);
+    let e = width(measure, n);
     let at = (d - 1) * e;
     lists::zero_over(&mut area[at..at + e], e);
 }
 
-// The pick's own table becomes the part of the pick's number.
+// The pick's own table becomes that of the part of the pick's number.
 pub fn own_part(area: &mut [u32], words: &[u32], measure: usize, n: usize, pick: Pick)
     requires { ⌜ (n ≤ 32) × ((pick .0 < 2 ^ 32) × ((n ≡ length (now words)) × Has (widthOf measure n) (length (now area)) (pick .0))) ⌝ }
     ensures { λ _. ⌜ now (area .exit) ≡ ownAt (kit measure n) (now (area .entry)) (pick .0) (now (words .entry)) ⌝ }
 {
-    let e = measures::width(measure, n);
+    let e = width(measure, n);
+    let k = measures::size(measure, n);
     let i = pick.0;
     let at = (i - 1) * e;
-    measures::own(&mut area[at..at + e], words, measure, n, pick);
+    measures::own(&mut area[at..at + k], words, measure, n, pick);
 }
 
 // ---- no part written
 
-// Whether the table in part `window` passes; both parts are lent as they stand.
-pub fn passes_part(area: &[u32], measure: usize, n: usize, footprint: usize, window: usize) -> bool
+// Whether the table of part `window` passes, a round trip turning round in `turn` picks; both tables are lent as they stand.
+pub fn passes_part(
+    area: &[u32],
+    measure: usize,
+    n: usize,
+    footprint: usize,
+    window: usize,
+    turn: u32,
+) -> bool
     requires { ⌜ (n ≤ 32) × (Has (widthOf measure n) (length (now area)) footprint × Has (widthOf measure n) (length (now area)) window) ⌝ }
-    ensures { λ r. ⌜ r ≡ kit measure n .pass (part (widthOf measure n) (now (area .entry)) footprint) (part (widthOf measure n) (now (area .entry)) window) ⌝ }
+    ensures { λ r. ⌜ r ≡ passOf turn measure n (tableAt (kit measure n) (now (area .entry)) footprint) (tableAt (kit measure n) (now (area .entry)) window) ⌝ }
 {
-    let e = measures::width(measure, n);
+    let e = width(measure, n);
+    let k = measures::size(measure, n);
     let from = (footprint - 1) * e;
     let at = (window - 1) * e;
-    measures::passes(&area[from..from + e], &area[at..at + e], measure, n)
+    measures::passes(&area[from..from + k], &area[at..at + k], measure, n, turn)
 }
 
-// Whether the composition of parts l and r would pass under measures 2 and 3: nothing is written.
+// Whether the composition of the tables of parts l and r would pass under measures 2 and 3: nothing is written.
 pub fn joined_passes(
     area: &[u32],
     measure: usize,
@@ -222,14 +254,15 @@ pub fn joined_passes(
     l: usize,
     r: usize,
 ) -> bool
-    requires { ⌜ (n ≤ 32) × (measure ≢ 4) × (measure ≢ 3 → measure ≡ 2)
-        × Has n (length (now area)) footprint × Has n (length (now area)) l × Has n (length (now area)) r ⌝ }
-    ensures { λ x. ⌜ x
-        ≡ passOf 0 measure n (part n (now (area .entry)) footprint) (joinOf measure n (part n (now (area .entry)) l) (part n (now (area .entry)) r)) ⌝ }
+    requires { ⌜ (n ≤ 32) × (measure ≢ 4) × (measure ≢ 3 → measure ≡ 2) × Has (widthOf measure n) (length (now area)) footprint
+        × Has (widthOf measure n) (length (now area)) l × Has (widthOf measure n) (length (now area)) r ⌝ }
+    ensures { λ x. ⌜ x ≡ kit measure n .pass (tableAt (kit measure n) (now (area .entry)) footprint)
+        (joinOf measure n (tableAt (kit measure n) (now (area .entry)) l) (tableAt (kit measure n) (now (area .entry)) r)) ⌝ }
 {
-    let from = (footprint - 1) * n;
-    let at = (l - 1) * n;
-    let to = (r - 1) * n;
+    let e = width(measure, n);
+    let from = (footprint - 1) * e;
+    let at = (l - 1) * e;
+    let to = (r - 1) * e;
     if measure == 3 {
         return joins::joins_full(&area[at..at + n], &area[to..to + n], n);
     }

@@ -11,13 +11,14 @@ use borrow.Author.Tests.{eq-eqb, ne-eqb, ltb-true}
 use lib.Dec.{eqb, ltb}
 use lib.ListN.{length, take, drop}
 use Rattle.lists.specs.Tab.{zeros, splice}
-use Rattle.lists.proofs.Tab.{length-tab, length-zeros}
-use Rattle.links.specs.Tables.{union, eitherRow}
-use Rattle.checks.specs.Lent.{lentPick}
-use Rattle.checks.proofs.Lent.{lent-long, first-lent, first-room}
-use Rattle.measures.specs.Kit.{Kit, kit, widthOf}
-use Rattle.measures.proofs.Words.{width-links}
-use Rattle.area.specs.Parts.{part, putPart, zeroAt, zeroed}
+use Rattle.lists.proofs.Tab.{length-zeros}
+use Rattle.links.specs.Tables.{union}
+use Rattle.links.specs.Picks.{lentPick, unitedPicks}
+use Rattle.links.proofs.Picks.{lent-long, first-lent, length-united}
+use Rattle.measures.specs.Kit.{Kit, kit}
+use Rattle.measures.proofs.Words.{size-links}
+use Rattle.area.specs.Parts.{stored, table, partSize, widthOf, tableAt, putPart, zeroAt, zeroed}
+use Rattle.area.proofs.Stored.{stored-size, table-stored, stored-lent}
 use Rattle.area.proofs.Laws.{put-same, put-beyond, zeroed-part}
 use Rattle.place.specs.declared.Settings.{Settings}
 use Rattle.place.specs.declared.Place.{Place}
@@ -40,52 +41,23 @@ use Rattle.calls.proofs.Opened.{opened-length, opened-list}
 
 -- ---- the union of the picks
 
-length-union : (n : ℕ) (s t : List ℕ) → length (union n s t) ≡ n
-unfolding union
-length-union n s t = length-tab (eitherRow s t) n
+-- onto pick 1 the picks after it are united
+unions-united : (n : ℕ) (w : List ℕ) (k : ℕ) → unions n w (suc k) ≡ unitedPicks n (lentPick n w 0) w 1 k
+unfolding unions unitedPicks
+unions-united n w zero = refl
+unions-united n w (suc k) = let e : suc k ≡ 1 + k = omega arith in ap₂ (union n) (unions-united n w k) (ap (lentPick n w) e)
 
 pub length-unions : (n : ℕ) (w : List ℕ) (k : ℕ) → k * n ≤ length w → length (unions n w k) ≡ n
 unfolding unions
 length-unions n w zero room = length-zeros n
-length-unions n w (suc zero) room = lent-long n 0 1 w room (omega arith)
-length-unions n w (suc (suc k)) room = length-union n (unions n w (suc k)) (lentPick n w (suc k))
+length-unions n w (suc k) room = ap length (unions-united n w k) ∙ length-united n _ w 1 k (lent-long n 0 (suc k) w room (omega arith))
 
-unions-next : (n : ℕ) (w : List ℕ) (k : ℕ) → 1 ≤ k → union n (unions n w k) (lentPick n w k) ≡ unions n w (k + 1)
-unfolding unions
-unions-next n w zero h = absurd (omega arith)
-unions-next n w (suc k) h = rw add-one
-
--- what holds once k picks are united: k - 1 unions were made
-pub record United (n m : ℕ) (w : List ℕ) (k made : ℕ) (t : List ℕ) : Type 0 where
-  pub low : 1 ≤ k
-  pub high : k ≤ m
-  pub words : t ≡ unions n w k
-  pub long : n ≡ length t
-  pub cost : made ≡ k - 1
-
--- pick 1
-pub united-start : (n m : ℕ) (w t : List ℕ) → 1 ≤ m → m * n ≤ length w → t ≡ take (n - 0) w → United n m w 1 0 t
-unfolding unions
-united-start n m w t h room e =
-    record { low = le-refl 1; high = h; words = e ∙ first-lent n w; long = first-room n m w room h ∙ sym (ap length e); cost = refl }
-
-module _ {n m : ℕ} {w : List ℕ} {k made : ℕ} {t : List ℕ} (g : United n m w k made t) where
-  -- a union with the pick after it
-  pub united-turn : {x s : List ℕ} → k < m → x ≡ lentPick n w k → s ≡ union n t x → United n m w (k + 1) (made + 1) s
-  united-turn {x} {s} h e f =
-      let l = g .low in
-      let c = g .cost in
-      record {
-        low = omega arith;
-        high = omega arith;
-        words = f ∙ ap₂ (union n) (g .words) e ∙ unions-next n w k (g .low);
-        long = sym (ap length f ∙ length-union n t x);
-        cost = omega arith;
-      }
-
-  -- all of them
-  pub united-all : m ≤ k → (made ≡ m - 1) × (t ≡ unions n w m)
-  united-all h = let a = g .high in let e : k ≡ m = omega arith in (rw e at (g .cost), rw e at (g .words))
+-- t is pick 1 as code copies it
+pub unions-made : (n m : ℕ) (w t s : List ℕ) → 1 ≤ m → t ≡ take (n - 0) w → s ≡ unitedPicks n t w 1 (m - 1) → s ≡ unions n w m
+unions-made n zero w t s h e f = absurd (omega arith)
+unions-made n (suc k) w t s h e f =
+    let i : suc k - 1 ≡ k = omega arith in
+    f ∙ ap₂ (λ (x : List ℕ) (y : ℕ). unitedPicks n x w 1 y) (e ∙ first-lent n w) i ∙ sym (unions-united n w k)
 
 -- ---- the start
 
@@ -93,15 +65,18 @@ module _ (n measure m : ℕ) (w a : List ℕ) (f : Runs n measure m w a) where
   abbrev E : ℕ
   E = widthOf measure n
 
+  abbrev K : Kit
+  K = kit measure n
+
   united : length (unions n w m) ≡ n
   united = let z = f .words in length-unions n w m (omega arith)
 
-  begun : {p : Place} {t b : List ℕ} → p ≡ wholeStart n measure m w a .place → length t ≡ E → b ≡ putPart E a (m + 3) t
-      → t ≡ part E (openedArea n measure m (unions n w m) a) (m + 3) → Begins n measure m w a p b
+  begun : {p : Place} (t : List ℕ) {b : List ℕ} → p ≡ wholeStart n measure m w a .place → length t ≡ E → b ≡ putPart E a (m + 3) t
+      → table (K .size) t ≡ tableAt K (openedArea n measure m (unions n w m) a) (m + 3) → Begins n measure m w a p b
   unfolding wholeStart charged fresh
-  begun {p} {t} {b} e l g h =
-      let at : part E b (m + 3) ≡ part E (openedArea n measure m (unions n w m) a) (m + 3) =
-      ap (λ (x : List ℕ). part E x (m + 3)) g ∙ put-same E (m + 4) a (f .room) (m + 3) (omega arith) (omega arith) t l ∙ h in
+  begun {p} t {b} e l g h =
+      let at : tableAt K b (m + 3) ≡ tableAt K (openedArea n measure m (unions n w m) a) (m + 3) =
+      ap (λ (x : List ℕ). tableAt K x (m + 3)) g ∙ ap (table (K .size)) (put-same E (m + 4) a (f .room) (m + 3) (omega arith) (omega arith) t l) ∙ h in
       record {
         place = e;
         alike = subst (λ (x : Place). Alike x b (openedArea n measure m (unions n w m) a)) (sym e) (alike-fresh _ b _ refl at);
@@ -113,24 +88,25 @@ module _ (n measure m : ℕ) (w a : List ℕ) (f : Runs n measure m w a) where
       → Begins n measure m w a p b
   unfolding wholeStart openedArea zeroAt
   start-other ne e g =
-      begun (e ∙ charged-none (fresh measure n m) ∙ rw (ne-eqb measure 2 ne)) (length-zeros E) g
-      (sym (rw (ne-eqb measure 2 ne) (zeroed-part E (m + 4) a (m + 3) (omega arith) (omega arith))))
+      begun (zeros E) (e ∙ charged-none (fresh measure n m) ∙ rw (ne-eqb measure 2 ne)) (length-zeros E) g
+      (ap (table (K .size)) (sym (rw (ne-eqb measure 2 ne) (zeroed-part E (m + 4) a (m + 3) (omega arith) (omega arith)))))
 
   -- under measure 2 it is made in part m + 3
-  pub start-footprint : {p q : Place} {t : List ℕ} → measure ≡ 2 → q ≡ fresh measure n m → (p ≡ charged q (m - 1)) × (t ≡ unions n w m)
-      → Begins n measure m w a p (take ((m + 2) * n) a ++ (t ++ drop n (drop ((m + 2) * n) a)))
-  unfolding wholeStart splice
-  start-footprint {p} {q} {t} two e u =
+  pub start-footprint : {p q : Place} {t b : List ℕ} {e : ℕ} → measure ≡ 2 → e ≡ E → q ≡ fresh measure n m
+      → (p ≡ charged q (m - 1)) × (t ≡ unions n w m) → b ≡ splice ((m + 2) * e) n t a → Begins n measure m w a p b
+  unfolding wholeStart
+  start-footprint {p} {q} {t} {b} {e} two k g u h =
       let i : m + 3 - 1 ≡ m + 2 = omega arith in
-      let k = width-links measure n (λ x. omega arith) in
-      let z = f .words in
-      begun (u .0 ∙ ap (λ (x : Place). charged x (m - 1)) e ∙ rw (eq-eqb measure 2 two)) (ap length (u .1) ∙ united ∙ sym k) (rw (k, i))
-      (u .1 ∙ sym (opened-list n measure m (unions n w m) a (f .room) (λ x. sym united) two))
+      let size = size-links measure n (λ x. omega arith) in
+      let long : length t ≡ K .size = ap length (u .1) ∙ united ∙ sym size in
+      begun (stored K t) (u .0 ∙ ap (λ (x : Place). charged x (m - 1)) g ∙ rw (eq-eqb measure 2 two)) (stored-size K t long)
+      (h ∙ ap (λ (x : ℕ). splice (x * e) n t a) (sym i) ∙ stored-lent K a (m + 3) k (sym size) t)
+      (table-stored K t long ∙ u .1 ∙ sym (opened-list n measure m (unions n w m) a (f .room) (λ x. sym united) two))
 
 -- ---- the steps
 
 -- what holds after k picks: the place is ready for the next one, and the words beyond the parts are as they were
-pub record Along (p : Place) (w a : List ℕ) (m k : ℕ) (q : Place) (b : List ℕ) : Type 0 where
+pub record AfterPicks (p : Place) (w a : List ℕ) (m k : ℕ) (q : Place) (b : List ℕ) : Type 0 where
   pub starts : Starts p m w a
   pub low : k ≤ m
   pub ready : Ready q (length b)
@@ -139,9 +115,9 @@ pub record Along (p : Place) (w a : List ℕ) (m k : ℕ) (q : Place) (b : List 
   pub taken : q .window .taken .0 ≡ k
   pub comps : q .counts .compositions .0 ≤ perPick * (k + 1)
   pub tests : q .counts .tests .0 ≤ perPick * (k + 1)
-  pub beyond : drop ((p .settings .limit + 4) * kitOf (p .settings) .width) b ≡ drop ((p .settings .limit + 4) * kitOf (p .settings) .width) a
+  pub beyond : drop ((p .settings .limit + 4) * partSize (kitOf (p .settings))) b ≡ drop ((p .settings .limit + 4) * partSize (kitOf (p .settings))) a
 
-pub along-start : (p : Place) (w a : List ℕ) (m : ℕ) → Starts p m w a → Along p w a m 0 p a
+pub along-start : (p : Place) (w a : List ℕ) (m : ℕ) → Starts p m w a → AfterPicks p w a m 0 p a
 along-start p w a m s =
     let c = s .comps in
     let t = s .tests in
@@ -157,7 +133,7 @@ along-start p w a m s =
       beyond = refl;
     }
 
-module _ {p q : Place} {w a b : List ℕ} {m k : ℕ} (g : Along p w a m k q b) (h : k < m) where
+module _ {p q : Place} {w a b : List ℕ} {m k : ℕ} (g : AfterPicks p w a m k q b) (h : k < m) where
   abbrev pick : List ℕ
   pick = lentPick (p .settings .boards) w k
 
@@ -178,8 +154,8 @@ module _ {p q : Place} {w a b : List ℕ} {m k : ℕ} (g : Along p w a m k q b) 
 
   -- a step that comes to the place of the walk, and writes no word beyond the parts
   pub along-turn : {r : Place} {d : List ℕ} → r ≡ stepped (kitOf (q .settings)) pick (state q b) .place → length d ≡ length b
-      → drop ((q .settings .limit + 4) * kitOf (q .settings) .width) d ≡ drop ((q .settings .limit + 4) * kitOf (q .settings) .width) b
-      → Along p w a m (k + 1) r d
+      → drop ((q .settings .limit + 4) * partSize (kitOf (q .settings))) d ≡ drop ((q .settings .limit + 4) * partSize (kitOf (q .settings))) b
+      → AfterPicks p w a m (k + 1) r d
   along-turn {r} {d} e size out =
       let s = subst (λ (x : Place). Stepped q x) (sym e) (stepped-grown q b pick (g .ready) room) in
       let sc = s .comps in
@@ -197,22 +173,22 @@ module _ {p q : Place} {w a b : List ℕ} {m k : ℕ} (g : Along p w a m k q b) 
         taken = omega arith;
         comps = omega arith;
         tests = omega arith;
-        beyond = subst (λ (s : Settings). drop ((s .limit + 4) * kitOf s .width) d ≡ drop ((s .limit + 4) * kitOf s .width) b) (g .settings) out
+        beyond = subst (λ (s : Settings). drop ((s .limit + 4) * partSize (kitOf s)) d ≡ drop ((s .limit + 4) * partSize (kitOf s)) b) (g .settings) out
             ∙ g .beyond;
       }
 
   -- a step of the walk
-  pub along-walk : Along p w a m (k + 1) (stepped (kitOf (q .settings)) pick (state q b) .place) (stepped (kitOf (q .settings)) pick (state q b) .area)
+  pub along-walk : AfterPicks p w a m (k + 1) (stepped (kitOf (q .settings)) pick (state q b) .place) (stepped (kitOf (q .settings)) pick (state q b) .area)
   along-walk = let f = stepped-framed q b pick (g .ready) room shape in along-turn refl (f .size) (f .beyond)
 
   -- a step of a whole run
-  pub along-bare : {r : Place} {d : List ℕ} → Does (bareStep (kitOf (q .settings)) pick) q b r d → Along p w a m (k + 1) r d
+  pub along-bare : {r : Place} {d : List ℕ} → Does (bareStep (kitOf (q .settings)) pick) q b r d → AfterPicks p w a m (k + 1) r d
   along-bare {r} {d} e =
       let f = bare-frame q pick b along-takes in
-      along-turn (e .0 ∙ bare-place q pick b) (ap length (e .1) ∙ f .0) (ap (drop ((q .settings .limit + 4) * kitOf (q .settings) .width)) (e .1) ∙ f .1)
+      along-turn (e .0 ∙ bare-place q pick b) (ap length (e .1) ∙ f .0) (ap (drop ((q .settings .limit + 4) * partSize (kitOf (q .settings)))) (e .1) ∙ f .1)
 
 -- the state after one pick more
-pub bare-next : {p q r : Place} {w a b d : List ℕ} {m k : ℕ} → Along p w a m k q b
+pub bare-next : {p q r : Place} {w a b d : List ℕ} {m k : ℕ} → AfterPicks p w a m k q b
     → state q b ≡ bareSteps (kitOf (p .settings)) (p .settings .boards) w k (state p a)
     → Does (bareStep (kitOf (q .settings)) (lentPick (p .settings .boards) w k)) q b r d
     → state r d ≡ bareSteps (kitOf (p .settings)) (p .settings .boards) w (k + 1) (state p a)
@@ -226,7 +202,7 @@ unfolding bareSteps
 bare-none K n w st = refl
 
 -- after the last pick
-pub along-end : {p q : Place} {w a b : List ℕ} {m k : ℕ} → Along p w a m k q b
+pub along-end : {p q : Place} {w a b : List ℕ} {m k : ℕ} → AfterPicks p w a m k q b
     → state q b ≡ bareSteps (kitOf (p .settings)) (p .settings .boards) w k (state p a) → m ≤ k
     → Does (bareSteps (kitOf (p .settings)) (p .settings .boards) w m) p a q b × Ends p m a q b
 along-end {p} {q} {w} {a} {b} {m} {k} g s h =
@@ -242,7 +218,7 @@ along-end {p} {q} {w} {a} {b} {m} {k} g s h =
 -- ---- the steps of the walk
 
 pub walked : (p : Place) (w a : List ℕ) (m : ℕ) → Starts p m w a → (k : ℕ) → k ≤ m
-    → Along p w a m k (stepsOf (kitOf (p .settings)) (p .settings .boards) w k (state p a) .place) (stepsOf (kitOf (p .settings)) (p .settings .boards) w k
+    → AfterPicks p w a m k (stepsOf (kitOf (p .settings)) (p .settings .boards) w k (state p a) .place) (stepsOf (kitOf (p .settings)) (p .settings .boards) w k
     (state p a) .area)
 unfolding stepsOf
 walked p w a m s zero h = along-start p w a m s
@@ -250,8 +226,8 @@ walked p w a m s (suc k) h =
     let g = walked p w a m s k (omega arith) in
     let st = stepsOf (kitOf (p .settings)) (p .settings .boards) w k (state p a) in
     let pick = lentPick (p .settings .boards) w k in
-    subst (λ (i : ℕ). Along p w a m i (stepped (kitOf (p .settings)) pick st .place) (stepped (kitOf (p .settings)) pick st .area)) (add-one k)
-    (subst (λ (K : Kit). Along p w a m (k + 1) (stepped K pick st .place) (stepped K pick st .area)) (ap kitOf (g .settings)) (along-walk g (omega arith)))
+    subst (λ (i : ℕ). AfterPicks p w a m i (stepped (kitOf (p .settings)) pick st .place) (stepped (kitOf (p .settings)) pick st .area)) (add-one k)
+    (subst (λ (K : Kit). AfterPicks p w a m (k + 1) (stepped K pick st .place) (stepped K pick st .area)) (ap kitOf (g .settings)) (along-walk g (omega arith)))
 
 -- ---- the steps of a whole run beside those of the walk
 
@@ -263,12 +239,12 @@ module _ (p : Place) (w a b : List ℕ) (m : ℕ) (sa : Starts p m w a) (sb : St
   walk k = stepsOf (kitOf (p .settings)) (p .settings .boards) w k (state p b)
 
   -- after k picks both have come to one place, and to areas that no step tells apart
-  pub record Beside (k : ℕ) : Type 0 where
+  pub record SamePlace (k : ℕ) : Type 0 where
     pub same : bare k .place ≡ walk k .place
     pub still : StillAlike (bare k .place) (bare k .area) (walk k .area)
-    pub left : Along p w a m k (bare k .place) (bare k .area)
+    pub left : AfterPicks p w a m k (bare k .place) (bare k .area)
 
-  pub beside : (k : ℕ) → k ≤ m → Beside k
+  pub beside : (k : ℕ) → k ≤ m → SamePlace k
   unfolding bareSteps stepsOf
   beside zero h = record { same = refl; still = λ z. x; left = along-start p w a m sa }
   beside (suc k) h =
@@ -287,13 +263,13 @@ module _ (p : Place) (w a b : List ℕ) (m : ℕ) (sa : Starts p m w a) (sb : St
       (stepped (kitOf (p .settings)) pick (state y (walk k .area)) .area)) (g .same)
       (subst (λ (K : Kit). (bareStep K pick (bare k) .place ≡ stepped K pick (state q (walk k .area)) .place)
       × StillAlike (bareStep K pick (bare k) .place) (bareStep K pick (bare k) .area) (stepped K pick (state q (walk k .area)) .area)) kl n) in
-      let l : Along p w a m (k + 1) (bareStep (kitOf (p .settings)) pick (bare k) .place) (bareStep (kitOf (p .settings)) pick (bare k) .area) =
-      subst (λ (K : Kit). Along p w a m (k + 1) (bareStep K pick (bare k) .place) (bareStep K pick (bare k) .area)) kl (along-bare (g .left) (omega arith)
+      let l : AfterPicks p w a m (k + 1) (bareStep (kitOf (p .settings)) pick (bare k) .place) (bareStep (kitOf (p .settings)) pick (bare k) .area) =
+      subst (λ (K : Kit). AfterPicks p w a m (k + 1) (bareStep K pick (bare k) .place) (bareStep K pick (bare k) .area)) kl (along-bare (g .left) (omega arith)
       (refl, refl)) in
       record {
         same = e .0;
         still = e .1;
-        left = subst (λ (i : ℕ). Along p w a m i (bareStep (kitOf (p .settings)) pick (bare k) .place)
+        left = subst (λ (i : ℕ). AfterPicks p w a m i (bareStep (kitOf (p .settings)) pick (bare k) .place)
             (bareStep (kitOf (p .settings)) pick (bare k) .area)) (add-one k) l;
       }
 
@@ -325,7 +301,7 @@ finished-steps K n w st k (suc j) q b f e g =
     ∙ ap (λ (x : ℕ). bareSteps K n w x st) i
 
 -- the picks that are left
-pub along-finished : {p q r : Place} {w a b : List ℕ} {m k : ℕ} → Along p w a m k q b
+pub along-finished : {p q r : Place} {w a b : List ℕ} {m k : ℕ} → AfterPicks p w a m k q b
     → state q b ≡ bareSteps (kitOf (p .settings)) (p .settings .boards) w k (state p a) → k ≤ m → finished q ≡ true
     → r ≡ picksTaken q (m - k) → Does (bareSteps (kitOf (p .settings)) (p .settings .boards) w m) p a r b × Ends p m a r b
 unfolding picksTaken
@@ -387,11 +363,12 @@ whole-ends n measure m w a {p} {q} {b} {d} f g l e =
 
 -- the words beyond the needed ones
 pub whole-beyond : (n measure m : ℕ) (w a d : List ℕ) {p : Place} {b : List ℕ} → Begins n measure m w a p b
-    → drop ((p .settings .limit + 4) * kitOf (p .settings) .width) d ≡ drop ((p .settings .limit + 4) * kitOf (p .settings) .width) b
+    → drop ((p .settings .limit + 4) * partSize (kitOf (p .settings))) d ≡ drop ((p .settings .limit + 4) * partSize (kitOf (p .settings))) b
     → zeroed (needed measure n m) d ≡ zeroed (needed measure n m) a
 unfolding splice wholeStart charged fresh
 whole-beyond n measure m w a d {p} {b} g h =
     let k : drop (needed measure n m) d ≡ drop (needed measure n m) b =
-    subst (λ (x : Place). drop ((x .settings .limit + 4) * kitOf (x .settings) .width) d ≡ drop ((x .settings .limit + 4) * kitOf (x .settings) .width) b)
+    subst (λ (x : Place). drop ((x .settings .limit + 4) * partSize (kitOf (x .settings))) d
+    ≡ drop ((x .settings .limit + 4) * partSize (kitOf (x .settings))) b)
     (g .place) h in
     ap (λ (x : List ℕ). zeros (needed measure n m) ++ x) (k ∙ g .beyond)

@@ -9,9 +9,9 @@ use lib.ListN.{length}
 use Rattle.model.specs.Causes.{Causes, firstOf}
 use Rattle.lists.specs.Tab.{zeros}
 use Rattle.links.specs.Tables.{union}
-use Rattle.checks.specs.Lent.{lentPick}
-use Rattle.measures.specs.Kit.{Kit, kit, widthOf}
-use Rattle.area.specs.Parts.{putPart, zeroed}
+use Rattle.links.specs.Picks.{lentPick}
+use Rattle.measures.specs.Kit.{Kit, kit}
+use Rattle.area.specs.Parts.{putTable, zeroed}
 use Rattle.place.specs.declared.Place.{Place}
 use Rattle.place.specs.Places.{fresh, nowhere, charged, soundPlace}
 use Rattle.verdicts.specs.Verdicts.{needed, openVerdict, pickVerdict, wholeVerdict}
@@ -24,7 +24,7 @@ use Rattle.calls.specs.Answers.{Handed, handed, Outcome, outcome, answer
 -- the needed words zero, and the footprint of measure 2 in part limit + 3
 unfoldable pub openedArea : ℕ → ℕ → ℕ → List ℕ → List ℕ → List ℕ
 openedArea n measure limit footprint a =
-    cond (eqb measure 2) (putPart (widthOf measure n) (zeroed (needed measure n limit) a) (limit + 3) footprint) (zeroed (needed measure n limit) a)
+    cond (eqb measure 2) (putTable (kit measure n) (zeroed (needed measure n limit) a) (limit + 3) footprint) (zeroed (needed measure n limit) a)
 
 -- opened: the fresh place of the measure. Refused: the place of zeros and noes, and the area as it was.
 unfoldable pub openSays : ℕ → ℕ → ℕ → List ℕ → List ℕ → Handed

@@ -1,5 +1,6 @@
 -- What the steps of a whole run rely on, and what they leave.
 use mathlib.Core.List.{List}
+use Rattle.area.specs.Parts.{partSize}
 use mathlib.Core.Path.{_≡_}
 use Prim.Native.Nat.{ℕ, _+_, _*_, _≤_}
 use lib.ListN.{length, drop}
@@ -30,4 +31,4 @@ pub record Begins (n measure m : ℕ) (w a : List ℕ) (p : Place) (b : List ℕ
 pub record Ends (p : Place) (m : ℕ) (a : List ℕ) (q : Place) (b : List ℕ) : Type 0 where
   pub inside : 1 ≤ m → q .window .start .0 ≤ q .window .taken .0
   pub all-taken : q .window .taken .0 ≡ m
-  pub beyond : drop ((p .settings .limit + 4) * kitOf (p .settings) .width) b ≡ drop ((p .settings .limit + 4) * kitOf (p .settings) .width) a
+  pub beyond : drop ((p .settings .limit + 4) * partSize (kitOf (p .settings))) b ≡ drop ((p .settings .limit + 4) * partSize (kitOf (p .settings))) a

@@ -63,15 +63,16 @@ fn open_area(n: usize, measure: usize, limit: usize, footprint: &[u32], area: &m
     if measure != 2 {
         return;
     }
-    area::put_part(area, footprint, n, limit + 3);
+    area::put_table(area, footprint, measure, n, limit + 3);
 }
 
 // Opens a walk over n boards.
 pub fn open(n: usize, measure: usize, limit: usize, footprint: &[u32], area: &mut [u32]) -> Opening
-    ensures { λ r. ⌜ (openingSays r ≡ openSays n measure limit (now (footprint .entry)) (now (area .entry))) × (now (area .exit) ≡ openLeaves n measure limit (now (footprint .entry)) (now (area .entry))) ⌝ }
+    ensures { λ r. ⌜ (openingSays r ≡ openSays n measure limit (now (footprint .entry)) (now (area .entry)))
+        × (now (area .exit) ≡ openLeaves n measure limit (now (footprint .entry)) (now (area .entry))) ⌝ }
 {
     match verdicts::open_verdict(n, measure, limit, footprint, area) {
-        Verdict::Sound => {
+        Verdict::Clear => {
             open_area(n, measure, limit, footprint, area);
             Opening::Opened(Place::open(measure, n, limit))
         }
@@ -97,9 +98,9 @@ fn step_times(p: Place, area: &mut [u32], words: &[u32]) -> Place
     ensures { λ r. ⌜ Does (stepped (kitOf (p .settings)) (now (words .entry))) p (now (area .entry)) r (now (area .exit)) ⌝ }
 {
     let n = p.settings.boards;
-    let e = n * n + n * n;
+    let k = measures::size(4, n);
     let mut right = lists::no_times();
-    steps::step(p, area, words, &mut right[0..e], true)
+    steps::step(p, area, words, &mut right[0..k], true)
 }
 
 fn take_pick(p: Place, area: &mut [u32], words: &[u32]) -> Place
@@ -114,10 +115,11 @@ fn take_pick(p: Place, area: &mut [u32], words: &[u32]) -> Place
 
 // Takes a pick: one step of the walk.
 pub fn pick(p: Place, area: &mut [u32], words: &[u32]) -> Taking
-    ensures { λ r. ⌜ (takingSays r ≡ pickSays p (now (area .entry)) (now (words .entry))) × (now (area .exit) ≡ pickLeaves p (now (area .entry)) (now (words .entry))) ⌝ }
+    ensures { λ r. ⌜ (takingSays r ≡ pickSays p (now (area .entry)) (now (words .entry)))
+        × (now (area .exit) ≡ pickLeaves p (now (area .entry)) (now (words .entry))) ⌝ }
 {
     match verdicts::pick_verdict(p, area, words) {
-        Verdict::Sound => Taking::Taken(take_pick(p, area, words)),
+        Verdict::Clear => Taking::Taken(take_pick(p, area, words)),
         Verdict::Refuse(c) => Taking::NotTaken(p, c),
     }
 }
@@ -171,17 +173,12 @@ pub fn length(p: Place) -> Measured
 // ---- whole run
 
 // The union of m picks, from pick 1 on. Each pick after it is one union, and the unions that were made are charged.
-fn unite_picks(p: Place, words: &[u32], n: usize, m: usize, out: &mut [u32]) -> Place
+fn make_footprint(p: Place, words: &[u32], n: usize, m: usize, out: &mut [u32]) -> Place
     requires { ⌜ (n ≡ length (now out)) × (n ≤ 32) × (1 ≤ m) × (m ≤ 4096) × (m * n ≤ length (now words)) × (p .counts .compositions .0 ≡ 0) ⌝ }
     ensures { λ r. ⌜ (r ≡ charged p (m - 1)) × (now (out .exit) ≡ unions n (now (words .entry)) m) ⌝ }
 {
     lists::copy_over(out, &words[0..n], n);
-    let mut made: usize = 0;
-    for k in 1..m {
-        let at = k * n;
-        links::unite_into(out, &words[at..at + n], n);
-        made += 1;
-    }
+    let made = links::unite_picks(out, words, n, 1, m);
     p.charged(made)
 }
 
@@ -196,15 +193,17 @@ fn whole_start(n: usize, measure: usize, words: &[u32], m: usize, area: &mut [u3
         area::zero_part(area, measure, n, m + 3);
         return p;
     }
-    let at = (m + 2) * n;
-    unite_picks(p, words, n, m, &mut area[at..at + n])
+    let e = area::width(measure, n);
+    let at = (m + 2) * e;
+    make_footprint(p, words, n, m, &mut area[at..at + n])
 }
 
 // All picks, one after the other, by the unchecked step: a count that starts at m - 1 would be refused as 16. The area is not kept, and once measure 1
 // has ended the picks that are left only count.
 fn whole_steps(p: Place, area: &mut [u32], words: &[u32], m: usize, right: &mut [u32]) -> Place
     requires { ⌜ Starts p m (now words) (now area) × Lends (p .settings) (length (now right)) ⌝ }
-    ensures { λ r. ⌜ Does (bareSteps (kitOf (p .settings)) (p .settings .boards) (now (words .entry)) m) p (now (area .entry)) r (now (area .exit)) × Ends p m (now (area .entry)) r (now (area .exit)) ⌝ }
+    ensures { λ r. ⌜ Does (bareSteps (kitOf (p .settings)) (p .settings .boards) (now (words .entry)) m) p (now (area .entry)) r (now (area .exit))
+        × Ends p m (now (area .entry)) r (now (area .exit)) ⌝ }
 {
     let n = p.settings.boards;
     let mut q = p;
@@ -221,7 +220,8 @@ fn whole_steps(p: Place, area: &mut [u32], words: &[u32], m: usize, right: &mut 
 // The same with room for the copy of a table of links, made once for all picks.
 fn whole_links(p: Place, area: &mut [u32], words: &[u32], m: usize) -> Place
     requires { ⌜ Starts p m (now words) (now area) × (p .settings .measure ≢ 4) ⌝ }
-    ensures { λ r. ⌜ Does (bareSteps (kitOf (p .settings)) (p .settings .boards) (now (words .entry)) m) p (now (area .entry)) r (now (area .exit)) × Ends p m (now (area .entry)) r (now (area .exit)) ⌝ }
+    ensures { λ r. ⌜ Does (bareSteps (kitOf (p .settings)) (p .settings .boards) (now (words .entry)) m) p (now (area .entry)) r (now (area .exit))
+        × Ends p m (now (area .entry)) r (now (area .exit)) ⌝ }
 {
     let n = p.settings.boards;
     let mut right = lists::no_words();
@@ -231,17 +231,19 @@ fn whole_links(p: Place, area: &mut [u32], words: &[u32], m: usize) -> Place
 // The same with room for the copy of a table of times.
 fn whole_times(p: Place, area: &mut [u32], words: &[u32], m: usize) -> Place
     requires { ⌜ Starts p m (now words) (now area) × (p .settings .measure ≡ 4) ⌝ }
-    ensures { λ r. ⌜ Does (bareSteps (kitOf (p .settings)) (p .settings .boards) (now (words .entry)) m) p (now (area .entry)) r (now (area .exit)) × Ends p m (now (area .entry)) r (now (area .exit)) ⌝ }
+    ensures { λ r. ⌜ Does (bareSteps (kitOf (p .settings)) (p .settings .boards) (now (words .entry)) m) p (now (area .entry)) r (now (area .exit))
+        × Ends p m (now (area .entry)) r (now (area .exit)) ⌝ }
 {
     let n = p.settings.boards;
-    let e = n * n + n * n;
+    let k = measures::size(4, n);
     let mut right = lists::no_times();
-    whole_steps(p, area, words, m, &mut right[0..e])
+    whole_steps(p, area, words, m, &mut right[0..k])
 }
 
 fn take_picks(p: Place, area: &mut [u32], words: &[u32], m: usize) -> Place
     requires { ⌜ Starts p m (now words) (now area) ⌝ }
-    ensures { λ r. ⌜ Does (bareSteps (kitOf (p .settings)) (p .settings .boards) (now (words .entry)) m) p (now (area .entry)) r (now (area .exit)) × Ends p m (now (area .entry)) r (now (area .exit)) ⌝ }
+    ensures { λ r. ⌜ Does (bareSteps (kitOf (p .settings)) (p .settings .boards) (now (words .entry)) m) p (now (area .entry)) r (now (area .exit))
+        × Ends p m (now (area .entry)) r (now (area .exit)) ⌝ }
 {
     if p.settings.measure == 4 {
         return whole_times(p, area, words, m);
@@ -252,7 +254,8 @@ fn take_picks(p: Place, area: &mut [u32], words: &[u32], m: usize) -> Place
 // A whole run that nothing refuses. It never reads what the area held, and the needed words end zero.
 fn whole_run(n: usize, measure: usize, words: &[u32], m: usize, area: &mut [u32]) -> Answer
     requires { ⌜ Runs n measure m (now words) (now area) ⌝ }
-    ensures { λ r. ⌜ (answerSays r ≡ wholeReport n measure m (now (words .entry)) (now (area .entry))) × (now (area .exit) ≡ zeroed (needed measure n m) (now (area .entry))) ⌝ }
+    ensures { λ r. ⌜ (answerSays r ≡ wholeReport n measure m (now (words .entry)) (now (area .entry)))
+        × (now (area .exit) ≡ zeroed (needed measure n m) (now (area .entry))) ⌝ }
 {
     let p = whole_start(n, measure, words, m, area);
     let q = take_picks(p, area, words, m);
@@ -262,10 +265,11 @@ fn whole_run(n: usize, measure: usize, words: &[u32], m: usize, area: &mut [u32]
 
 // The length of a recording lent whole, n words a pick, with the counts.
 pub fn whole(n: usize, measure: usize, words: &[u32], area: &mut [u32]) -> Answer
-    ensures { λ r. ⌜ (answerSays r ≡ wholeSays n measure (now (words .entry)) (now (area .entry))) × (now (area .exit) ≡ wholeLeaves n measure (now (words .entry)) (now (area .entry))) ⌝ }
+    ensures { λ r. ⌜ (answerSays r ≡ wholeSays n measure (now (words .entry)) (now (area .entry)))
+        × (now (area .exit) ≡ wholeLeaves n measure (now (words .entry)) (now (area .entry))) ⌝ }
 {
     match verdicts::whole_verdict(n, measure, words, area) {
-        Verdict::Sound => {
+        Verdict::Clear => {
             let m = words.len() / n;
             whole_run(n, measure, words, m, area)
         }

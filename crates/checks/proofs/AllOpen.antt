@@ -18,7 +18,8 @@ use Rattle.lists.proofs.Tab.{length-tab, getD-tab, every-ext}
 use Rattle.links.specs.Tables.{without}
 use Rattle.links.proofs.Bits.{bit-without, without-lt, without-32}
 use Rattle.checks.specs.Checks.{allowed, cleanRow, clean, listedRow, listed, allOpen}
-use Rattle.checks.specs.Lent.{lentPick, cleanPick, cleanPicks, listedPick, listedPicks}
+use Rattle.links.specs.Picks.{lentPick}
+use Rattle.checks.specs.Lent.{cleanPick, cleanPicks, listedPick, listedPicks}
 use Rattle.checks.proofs.Masks.{listed-word}
 
 module _ (n u : ℕ) (n32 : n ≤ 32) (h : u < n) where
@@ -34,16 +35,16 @@ module _ (n u : ℕ) (n32 : n ≤ 32) (h : u < n) where
   unfolding allowed
   small = without-lt n (2 ^ n - 1) u (omega (arith, pow-pos n))
 
-  below : row ≤ allowed n
+  row-allowed : row ≤ allowed n
   unfolding without
-  below = and-le-l (allowed n) (2 ^ 32 - 1 - 2 ^ u)
+  row-allowed = and-le-l (allowed n) (2 ^ 32 - 1 - 2 ^ u)
 
   -- a word whose links are in the row
   into : (x : ℕ) → bitOr x row ≡ row → T (leb x (allowed n) && not (bit x u))
   into x e =
       let s = or-add-and x row in
       let r = and-le-r x row in
-      let b = below in
+      let b = row-allowed in
       and-both (leb x (allowed n)) (not (bit x u)) (le→leb x (allowed n) (omega arith))
       (not-in (bit x u) (λ t. ne-eqb u u (and-r (bit (allowed n) u) (not (eqb u u))
       (tr (row-bit u h) (tr (ap (λ (y : ℕ). bit y u) e) (tr (sym (bit-or x row u)) (or-l (bit x u) (bit row u) t))))) refl))

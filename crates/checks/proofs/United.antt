@@ -3,8 +3,8 @@ use mathlib.Core.Path.{_≡_, refl, sym, ap, ap₂, _∙_}
 use mathlib.Core.Logic.{⊎-elim}
 use mathlib.Core.Bool.{Bool, true, _&&_}
 use mathlib.Core.List.{List, _++_}
-use Prim.Native.Nat.{ℕ, zero, suc, _+_, _-_, _≤_, _<_}
-use native.Mathlib.Numerals.{add-one}
+use Prim.Native.Nat.{ℕ, zero, suc, _-_, _≤_, _<_}
+use native.Mathlib.Nat.{sub-zero, zero-add}
 use native.Mathlib.Omega.{arith}
 use lib.Bits.{bitOr, or-zero-l}
 use lib.Dec.{eqb, eqb→eq}
@@ -15,10 +15,12 @@ use Rattle.model.proofs.Bits.{bit-or}
 use Rattle.lists.specs.Tab.{zeros, every}
 use Rattle.lists.proofs.Splice.{written-first, lent-first}
 use Rattle.lists.proofs.Zeros.{lent}
-use Rattle.lists.proofs.Tab.{length-tab, getD-tab, length-zeros, every-in, every-out}
+use Rattle.lists.proofs.Tab.{getD-tab, length-zeros, every-in, every-out}
 use Rattle.links.specs.Tables.{union, eitherRow}
+use Rattle.links.specs.Picks.{lentPick, unitedPicks}
+use Rattle.links.proofs.Picks.{length-united}
 use Rattle.checks.specs.Checks.{listedRow, listed}
-use Rattle.checks.specs.Lent.{lentPick, listedPick, listedPicks, unitedPicks}
+use Rattle.checks.specs.Lent.{listedPick, listedPicks}
 use Rattle.checks.proofs.Masks.{or-in, or-out}
 
 -- ---- one row
@@ -64,58 +66,31 @@ listed-none n l =
     (every-in (listedRow l (zeros n)) n (λ u h. eq-refl (ap (λ (x : ℕ). bitOr x (getD l u 0)) (getD-replicate n u 0 0 h) ∙ or-zero-l (getD l u 0))))
 
 -- THEOREM. The union of picks is listed exactly when each of them is.
-pub listed-united : (n : ℕ) (l w : List ℕ) (m : ℕ) → listed n l (unitedPicks n (zeros n) w m) ≡ listedPicks n l w m
+pub listed-united : (n : ℕ) (l w : List ℕ) (m : ℕ) → listed n l (unitedPicks n (zeros n) w 0 m) ≡ listedPicks n l w m
 unfolding unitedPicks listedPicks every listedPick
 listed-united n l w zero = listed-none n l
 listed-united n l w (suc m) =
-    listed-union n l (unitedPicks n (zeros n) w m) (lentPick n w m) ∙ ap (λ (b : Bool). b && listed n l (lentPick n w m)) (listed-united n l w m)
-
--- ---- the loop
-
--- what holds once k picks are united onto t₀
-pub record United (n m : ℕ) (w t₀ : List ℕ) (k : ℕ) (t : List ℕ) : Type 0 where
-  pub high : k ≤ m
-  pub long : n ≡ length t
-  pub words : t ≡ unitedPicks n t₀ w k
-
-pub united-start : (n m : ℕ) (w t₀ : List ℕ) → n ≡ length t₀ → United n m w t₀ 0 t₀
-unfolding unitedPicks
-united-start n m w t₀ e = record { high = omega arith; long = e; words = refl }
-
-module _ {n m : ℕ} {w t₀ : List ℕ} {k : ℕ} {t : List ℕ} (g : United n m w t₀ k t) where
-  -- a union with the pick after them
-  pub united-turn : {x s : List ℕ} → k < m → x ≡ lentPick n w k → s ≡ union n t x → United n m w t₀ (k + 1) s
-  unfolding unitedPicks union
-  united-turn {x} {s} h e f =
-      record { high = omega arith; long = sym (ap length f ∙ length-tab (eitherRow t x) n); words = f ∙ ap₂ (union n) (g .words) e ∙ rw add-one }
-
-  -- all of them
-  pub united-all : m ≤ k → t ≡ unitedPicks n t₀ w m
-  united-all h = let a = g .high in let e : k ≡ m = omega arith in rw e at (g .words)
+    ap (λ (k : ℕ). listed n l (union n (unitedPicks n (zeros n) w 0 m) (lentPick n w k))) (zero-add m)
+    ∙ listed-union n l (unitedPicks n (zeros n) w 0 m) (lentPick n w m) ∙ ap (λ (b : Bool). b && listed n l (lentPick n w m)) (listed-united n l w m)
 
 -- ---- the table they are united onto
 
-length-united : (n : ℕ) (t w : List ℕ) (m : ℕ) → length t ≡ n → length (unitedPicks n t w m) ≡ n
-unfolding unitedPicks union
-length-united n t w zero e = e
-length-united n t w (suc m) e = length-tab (eitherRow (unitedPicks n t w m) (lentPick n w m)) n
-
 -- x are 32 zeros, of which code lends the first n; y is the union that is written over them
-module _ (n m : ℕ) (w x y : List ℕ) (n32 : n ≤ 32) (z : x ≡ zeros 32) (e : y ≡ unitedPicks n (take (n - 0) x) w m) where
-  union-is : y ≡ unitedPicks n (zeros n) w m
-  union-is = e ∙ ap (λ (t : List ℕ). unitedPicks n t w m) (lent n 32 x z n32)
+module _ (n m : ℕ) (w x y : List ℕ) (n32 : n ≤ 32) (z : x ≡ zeros 32) (e : y ≡ unitedPicks n (take (n - 0) x) w 0 (m - 0)) where
+  union-is : y ≡ unitedPicks n (zeros n) w 0 m
+  union-is = e ∙ ap₂ (λ (t : List ℕ) (k : ℕ). unitedPicks n t w 0 k) (lent n 32 x z n32) (sub-zero m)
 
   union-long : length y ≡ n
-  union-long = ap length union-is ∙ length-united n (zeros n) w m (length-zeros n)
+  union-long = ap length union-is ∙ length-united n (zeros n) w 0 m (length-zeros n)
 
   pub union-room : n ≤ length (y ++ drop (n - 0) x)
   union-room = omega (arith, union-long, length-append y (drop (n - 0) x))
 
-  again : take (n - 0) (y ++ drop (n - 0) x) ≡ y
-  again = lent-first x union-long (written-first n x refl)
+  union-again : take (n - 0) (y ++ drop (n - 0) x) ≡ y
+  union-again = lent-first x union-long (written-first n x refl)
 
   pub union-lent-room : n ≤ length (take (n - 0) (y ++ drop (n - 0) x))
-  union-lent-room = omega (arith, ap length again, union-long)
+  union-lent-room = omega (arith, ap length union-again, union-long)
 
-  pub union-lent : take (n - 0) (y ++ drop (n - 0) x) ≡ unitedPicks n (zeros n) w m
-  union-lent = again ∙ union-is
+  pub union-lent : take (n - 0) (y ++ drop (n - 0) x) ≡ unitedPicks n (zeros n) w 0 m
+  union-lent = union-again ∙ union-is

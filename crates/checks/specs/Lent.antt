@@ -1,15 +1,10 @@
--- Picks lent as words, n words a pick, one pick after the other.
+-- Picks lent as words (`links/Picks`): as a recording, and what the checks say of them.
 use mathlib.Core.Bool.{Bool}
 use mathlib.Core.List.{List, [], _∷_, _++_}
-use Prim.Native.Nat.{ℕ, zero, suc, _*_}
-use lib.ListN.{take, drop}
+use Prim.Native.Nat.{ℕ, zero, suc}
 use Rattle.lists.specs.Tab.{every}
-use Rattle.links.specs.Tables.{union}
+use Rattle.links.specs.Picks.{lentPick}
 use Rattle.checks.specs.Checks.{clean, listed}
-
--- the pick with k picks before it
-unfoldable pub lentPick : ℕ → List ℕ → ℕ → List ℕ
-lentPick n w k = take n (drop (k * n) w)
 
 -- the first k picks, as a recording
 unfoldable pub lentPicks : ℕ → List ℕ → ℕ → List (List ℕ)
@@ -30,8 +25,3 @@ listedPick n list w k = listed n list (lentPick n w k)
 
 unfoldable pub listedPicks : ℕ → List ℕ → List ℕ → ℕ → Bool
 listedPicks n list w k = every (listedPick n list w) k
-
--- the table t, united with each of the first k picks
-unfoldable pub unitedPicks : ℕ → List ℕ → List ℕ → ℕ → List ℕ
-unitedPicks n t w zero = t
-unitedPicks n t w (suc k) = union n (unitedPicks n t w k) (lentPick n w k)

@@ -4,7 +4,7 @@ ghost use Prim.Native.Nat.{_*_, _≤_};
 ghost use lib.ListN.{length};
 ghost use Rattle.lists.specs.Tab.{zeros, splice};
 ghost use Rattle.checks.specs.Checks.{allowed, clean, listed, allOpen};
-ghost use Rattle.checks.specs.Lent.{cleanPicks, unitedPicks};
+ghost use Rattle.checks.specs.Lent.{cleanPicks};
 use model::Board;
 
 // The allowed bits for each number of boards n, 0 to 32: those below n. Row a of n boards may hold them all but bit a.
@@ -91,17 +91,6 @@ fn all_open(n: usize) -> [u32; 32]
     rows
 }
 
-// The links of each of the first m picks, n words each, join those of out.
-fn unite_all(out: &mut [u32], words: &[u32], n: usize, m: usize)
-    requires { ⌜ (n ≡ length (now out)) × (m * n ≤ length (now words)) ⌝ }
-    ensures { λ _. ⌜ now (out .exit) ≡ unitedPicks n (now (out .entry)) (now (words .entry)) m ⌝ }
-{
-    for k in 0..m {
-        let at = k * n;
-        links::unite_into(out, &words[at..at + n], n);
-    }
-}
-
 // Whether none of the first m picks, n words each, has a forbidden bit. Their union has a bit exactly where some pick has it, so it is asked of
 // the union, once.
 pub fn are_clean(words: &[u32], n: usize, m: usize) -> bool
@@ -110,6 +99,6 @@ pub fn are_clean(words: &[u32], n: usize, m: usize) -> bool
 {
     let rows = all_open(n);
     let mut any = lists::no_words();
-    unite_all(&mut any[0..n], words, n, m);
+    links::unite_picks(&mut any[0..n], words, n, 0, m);
     is_listed(&rows[0..n], &any[0..n], n)
 }

@@ -8,13 +8,13 @@ use borrow.Author.Tests.{lt-ltb, le-ltb}
 use lib.ListN.{length, getD, length-append}
 use lib.Seq.{getD-append-seam, getD-append-add}
 use Rattle.model.specs.Causes.{firstOr}
-use Rattle.commands.specs.declared.Width.the-variants.{Known}
+use Rattle.commands.specs.declared.Arity.the-variants.{Known}
 use Rattle.commands.specs.declared.Command.the-variants.{Boards, Later}
 use Rattle.commands.specs.declared.Item.the-variants.{Link, Pick, End}
-use Rattle.commands.specs.Commands.{misplaced, lookup, widthOf, commandOf, commandAt}
+use Rattle.commands.specs.Commands.{misplaced, lookup, arityOf, commandOf, commandAt}
 
 -- a command byte in its place, with its k operands behind it, is taken apart to what it says, whatever stands before and after
-pub command-here : (first : Bool) (pre rest : List ℕ) (c k : ℕ) → misplaced first c ≡ false → widthOf c ≡ Known k → k ≤ length rest
+pub command-here : (first : Bool) (pre rest : List ℕ) (c k : ℕ) → misplaced first c ≡ false → arityOf c ≡ Known k → k ≤ length rest
     → commandAt first (pre ++ (c ∷ rest)) (length pre) ≡ commandOf c (getD rest 0 0) (getD rest 1 0)
 unfolding commandAt firstOr
 command-here first pre rest c k e w h =
@@ -26,22 +26,22 @@ command-here first pre rest c k e w h =
 
 module _ (pre post : List ℕ) where
   pub boards-here : (n : ℕ) → commandAt true (pre ++ (0x42 ∷ n ∷ post)) (length pre) ≡ Boards n
-  unfolding widthOf lookup commandOf
+  unfolding arityOf lookup commandOf
   boards-here n = command-here true pre (n ∷ post) 0x42 1 refl refl (omega arith)
 
   pub opens-here : (a b : ℕ) → commandAt false (pre ++ (0x4F ∷ a ∷ b ∷ post)) (length pre) ≡ Later (Link (record { 0 = a }) (record { 0 = b }) true)
-  unfolding widthOf lookup commandOf
+  unfolding arityOf lookup commandOf
   opens-here a b = command-here false pre (a ∷ b ∷ post) 0x4F 2 refl refl (omega arith)
 
   pub shuts-here : (a b : ℕ) → commandAt false (pre ++ (0x53 ∷ a ∷ b ∷ post)) (length pre)
       ≡ Later (Link (record { 0 = a }) (record { 0 = b }) false)
-  unfolding widthOf lookup commandOf
+  unfolding arityOf lookup commandOf
   shuts-here a b = command-here false pre (a ∷ b ∷ post) 0x53 2 refl refl (omega arith)
 
   pub pick-here : commandAt false (pre ++ (0x50 ∷ post)) (length pre) ≡ Later Pick
-  unfolding widthOf lookup commandOf
+  unfolding arityOf lookup commandOf
   pick-here = command-here false pre post 0x50 0 refl refl (omega arith)
 
   pub end-here : commandAt false (pre ++ (0x45 ∷ post)) (length pre) ≡ Later End
-  unfolding widthOf lookup commandOf
+  unfolding arityOf lookup commandOf
   end-here = command-here false pre post 0x45 0 refl refl (omega arith)

@@ -1,7 +1,7 @@
 -- What the other case of a `let .. else` says: the command has not the constructor that is taken apart.
 -- Assumes nothing.
 use mathlib.Core.Path.{_≡_, refl, sym, ap}
-use mathlib.Core.Bool.{Bool, true, false, _||_, cond}
+use mathlib.Core.Bool.{Bool, true, false, _||_, not, cond}
 use mathlib.Core.List.{List, [], _∷_, _++_}
 use Prim.Native.Nat.{ℕ, _+_, _≤_, _<_}
 use native.Mathlib.Omega.{arith}
@@ -10,14 +10,14 @@ use lib.Dec.{eqb, ltb}
 use lib.ListN.{length, getD}
 use Rattle.model.specs.declared.Refusal.{Refusal}
 use Rattle.model.specs.declared.Refusal.the-variants as cause
-use Rattle.model.specs.Causes.{RefusalCauses, firstOr}
+use Rattle.model.specs.Causes.{between, RefusalCauses, firstOr}
 use denote.Enum.Declared.{tagOf}
 use types.Run.{OneOf, miss}
 use Rattle.commands.proofs.Command as command
 use Rattle.commands.specs.declared.Command.{Command}
 use Rattle.commands.specs.declared.Command.the-variants.{Boards, Later, Not}
 use Rattle.commands.specs.declared.Item.{Item}
-use Rattle.commands.specs.Commands.{widthOf, operandsOf, unreadable, spelledAt, commandAt}
+use Rattle.commands.specs.Commands.{arityOf, operandsOf, unreadable, spelledAt, commandAt}
 use Rattle.commands.specs.Causes.{boardsCauses, laterCauses, headAt, next}
 
 abbrev pub NotBoards : Command → Type 0
@@ -45,17 +45,17 @@ then-fitted own e ((true, r) ∷ cs) x = rw (e r)
 then-fitted own e ((false, r) ∷ cs) x = then-fitted own e cs x
 
 pub head-then : (limit room : ℕ) (bytes : List ℕ) (start : ℕ)
-    → headAt limit room bytes start ≡ cond (eqb limit 0 || ltb 4096 limit) (Not cause.Picks) (fitted (boardsCauses limit room) (commandAt true bytes start))
+    → headAt limit room bytes start ≡ cond (not (between 1 limit 4096)) (Not cause.Picks) (fitted (boardsCauses limit room) (commandAt true bytes start))
 unfolding headAt firstOr commandAt
 head-then limit room bytes start =
-    ap (cond (eqb limit 0 || ltb 4096 limit) (Not cause.Picks))
+    ap (cond (not (between 1 limit 4096)) (Not cause.Picks))
     (then-fitted (boardsCauses limit room) (λ r. refl) (unreadable true bytes start) (spelledAt bytes start))
 
 -- where the limit and the first command are right, its own causes are left
-pub head-boards : {limit : ℕ} (room : ℕ) (bytes : List ℕ) (start : ℕ) {n : ℕ} {x : Command} → (limit ≡ 0 → ⊥) → limit ≤ 4096
+pub head-boards : (limit room : ℕ) (bytes : List ℕ) (start : ℕ) {n : ℕ} {x : Command} → between 1 limit 4096 ≡ true
     → x ≡ commandAt true bytes start
     → x ≡ Boards n → headAt limit room bytes start ≡ fitted (boardsCauses limit room) (Boards n)
-head-boards room bytes start z h e f = simp (head-then, ne-eqb _ _ z, le-ltb _ _ h, sym e, f)
+head-boards limit room bytes start h e f = simp (head-then, h, sym e, f)
 
 pub next-then : (bytes : List ℕ) (n limit at count : ℕ) (links : List ℕ)
     → next bytes n limit at count links ≡ fitted (laterCauses n limit count links) (commandAt false bytes at)
@@ -79,5 +79,5 @@ next-other n limit count links (Not r) k = refl
 pub stopped-here : (first : Bool) (bytes : List ℕ) (at : ℕ) → length bytes ≤ at → commandAt first bytes at ≡ Not cause.Stopped
 unfolding commandAt firstOr
 stopped-here first bytes at h =
-    let k : length bytes < at + 1 + operandsOf (widthOf (getD bytes at 0)) = omega arith in
+    let k : length bytes < at + 1 + operandsOf (arityOf (getD bytes at 0)) = omega arith in
     rw (le-ltb at (length bytes) h, lt-ltb (length bytes) _ k)

@@ -8,7 +8,7 @@ use Rattle.model.specs.declared.Refusal.the-variants as cause
 use Rattle.commands.specs.declared.Command.{Command}
 use Rattle.commands.specs.declared.Command.the-variants.{Boards, Later, Not}
 use Rattle.commands.specs.declared.Item.the-variants.{Link, Pick, End}
-use Rattle.model.specs.Causes.{RefusalCauses, firstOr}
+use Rattle.model.specs.Causes.{between, RefusalCauses, firstOr}
 use Rattle.commands.specs.Commands.{unreadable, spelledAt}
 
 -- link operands equal, or n or above
@@ -22,7 +22,7 @@ unchanged false isOpen = not isOpen
 
 -- of the first command: 1, 4
 abbrev pub boardsCauses : ℕ → ℕ → Command → RefusalCauses
-boardsCauses limit room (Boards n) = (ltb n 2 || ltb 32 n, cause.Boards) ∷ (ltb room (limit * n), cause.Room) ∷ []
+boardsCauses limit room (Boards n) = (not (between 2 n 32), cause.Boards) ∷ (ltb room (limit * n), cause.Room) ∷ []
 boardsCauses limit room (Later i) = []
 boardsCauses limit room (Not r) = []
 
@@ -38,7 +38,7 @@ laterCauses n limit count links (Not r) = []
 -- 3 first; then 11, 12, 1, 4
 unfoldable pub headAt : ℕ → ℕ → List ℕ → ℕ → Command
 headAt limit room bytes start =
-    firstOr Not ((eqb limit 0 || ltb 4096 limit, cause.Picks) ∷ (unreadable true bytes start ++ boardsCauses limit room (spelledAt bytes start)))
+    firstOr Not ((not (between 1 limit 4096), cause.Picks) ∷ (unreadable true bytes start ++ boardsCauses limit room (spelledAt bytes start)))
     (spelledAt bytes start)
 
 -- 11, 12, then 13, 14 or 7

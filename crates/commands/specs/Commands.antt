@@ -7,8 +7,8 @@ use lib.ListN.{length, getD}
 use Rattle.model.specs.Causes.{RefusalCauses, firstOr}
 use Rattle.model.specs.declared.Refusal.the-variants as cause
 use Rattle.commands.specs.declared.Shape.{Shape}
-use Rattle.commands.specs.declared.Width.{Width}
-use Rattle.commands.specs.declared.Width.the-variants.{Known, Unknown}
+use Rattle.commands.specs.declared.Arity.{Arity}
+use Rattle.commands.specs.declared.Arity.the-variants.{Known, Unknown}
 use Rattle.commands.specs.declared.Command.{Command}
 use Rattle.commands.specs.declared.Command.the-variants.{Boards, Later, Not}
 use Rattle.commands.specs.declared.Item.the-variants.{Link, Pick, End}
@@ -24,13 +24,13 @@ shapes =
     ∷ []
 
 -- the first entry with that byte
-unfoldable pub lookup : List Shape → ℕ → Width
+unfoldable pub lookup : List Shape → ℕ → Arity
 lookup [] b = Unknown
 lookup (s ∷ ss) b = cond (eqb (s .byte) b) (Known (s .operands)) (lookup ss b)
 
-unfoldable pub widthOf : ℕ → Width
+unfoldable pub arityOf : ℕ → Arity
 unfolding lookup
-widthOf b = lookup shapes b
+arityOf b = lookup shapes b
 
 -- a known command byte with its operands; 4F opens a link, 53 shuts it
 unfoldable pub commandOf : ℕ → ℕ → ℕ → Command
@@ -45,19 +45,19 @@ abbrev pub misplaced : Bool → ℕ → Bool
 misplaced true b = not (eqb b 0x42)
 misplaced false b = eqb b 0x42
 
-abbrev pub isUnknown : Width → Bool
+abbrev pub isUnknown : Arity → Bool
 isUnknown (Known k) = false
 isUnknown Unknown = true
 
-abbrev pub operandsOf : Width → ℕ
+abbrev pub operandsOf : Arity → ℕ
 operandsOf (Known k) = k
 operandsOf Unknown = 0
 
 -- 11: a byte is there, and it is unknown or not in its place; 12: the file stops before it or inside its operands
 abbrev pub unreadable : Bool → List ℕ → ℕ → RefusalCauses
 unreadable first bytes at =
-    (ltb at (length bytes) && (misplaced first (getD bytes at 0) || isUnknown (widthOf (getD bytes at 0))), cause.Command)
-    ∷ (ltb (length bytes) (at + 1 + operandsOf (widthOf (getD bytes at 0))), cause.Stopped)
+    (ltb at (length bytes) && (misplaced first (getD bytes at 0) || isUnknown (arityOf (getD bytes at 0))), cause.Command)
+    ∷ (ltb (length bytes) (at + 1 + operandsOf (arityOf (getD bytes at 0))), cause.Stopped)
     ∷ []
 
 -- what the bytes at a place of the file say, where nothing refuses them
@@ -78,13 +78,13 @@ operandsIn (Later Pick) = 0
 operandsIn (Later End) = 0
 operandsIn (Not r) = 0
 
-abbrev pub isWidth : Width → ℕ → Bool
-isWidth (Known k) m = eqb k m
-isWidth Unknown m = false
+abbrev pub isArity : Arity → ℕ → Bool
+isArity (Known k) m = eqb k m
+isArity Unknown m = false
 
 -- an entry is found by its byte, and its count is that of the byte's command, whatever the operands
 unfoldable pub ruled : ℕ → ℕ → Shape → Bool
-ruled x y s = isWidth (widthOf (s .byte)) (s .operands) && eqb (operandsIn (commandOf (s .byte) x y)) (s .operands)
+ruled x y s = isArity (arityOf (s .byte)) (s .operands) && eqb (operandsIn (commandOf (s .byte) x y)) (s .operands)
 
 abbrev pub everyShape : (Shape → Bool) → List Shape → Bool
 everyShape f [] = true

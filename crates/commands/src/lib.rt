@@ -3,7 +3,7 @@ ghost use mathlib.Core.Path.{_≡_};
 ghost use Prim.Native.Nat.{_≤_, _<_};
 ghost use lib.ListN.{length, getD};
 ghost use Rattle.model.specs.Recording.{link};
-ghost use Rattle.commands.specs.Commands.{widthOf, misplaced, commandOf, commandAt};
+ghost use Rattle.commands.specs.Commands.{arityOf, misplaced, commandOf, commandAt};
 ghost use Rattle.commands.specs.Causes.{noLink, unchanged, headAt, next as nextOf};
 use model::Board;
 use model::Refusal;
@@ -53,24 +53,24 @@ const COMMANDS: [Shape; 5] = [
     },
 ];
 
-pub enum Width {
+pub enum Arity {
     Known(u8),
     Unknown,
 }
 
 // The operand count of a command byte, by the table.
-fn operands_of(byte: u8) -> Width
-    ensures { λ r. ⌜ r ≡ widthOf byte ⌝ }
+fn operands_of(byte: u8) -> Arity
+    ensures { λ r. ⌜ r ≡ arityOf byte ⌝ }
 {
     let mut i: usize = 0;
     while i < 5 {
         let shape = COMMANDS[i];
         if shape.byte == byte {
-            return Width::Known(shape.operands);
+            return Arity::Known(shape.operands);
         }
         i += 1;
     }
-    Width::Unknown
+    Arity::Unknown
 }
 
 // Whether a 42 stands elsewhere than first, or another byte stands first.
@@ -120,7 +120,7 @@ fn command_at(bytes: &[u8], at: usize, first: bool) -> Command
     if is_misplaced(byte, first) {
         return Command::Not(Refusal::Command);
     }
-    let Width::Known(operands) = operands_of(byte) else {
+    let Arity::Known(operands) = operands_of(byte) else {
         return Command::Not(Refusal::Command);
     };
     if bytes.len() < at + 1 + operands as usize {
@@ -135,20 +135,14 @@ fn command_at(bytes: &[u8], at: usize, first: bool) -> Command
 pub fn head_at(bytes: &[u8], start: usize, limit: usize, room: usize) -> Command
     ensures { λ r. ⌜ r ≡ headAt limit room (now (bytes .entry)) start ⌝ }
 {
-    if limit == 0 {
-        return Command::Not(Refusal::Picks);
-    }
-    if 4096 < limit {
+    if !model::is_between(1, limit, 4096) {
         return Command::Not(Refusal::Picks);
     }
     let command = command_at(bytes, start, true);
     let Command::Boards(n) = command else {
         return command;
     };
-    if n < 2 {
-        return Command::Not(Refusal::Boards);
-    }
-    if 32 < n {
+    if !model::is_between(2, n, 32) {
         return Command::Not(Refusal::Boards);
     }
     if room < limit * n {

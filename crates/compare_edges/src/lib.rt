@@ -53,7 +53,7 @@ fn answer(call: Call, e: Edge, words: &[u32], area: &mut [u32]) -> Outcome {
     }
 }
 
-fn run(call: Call, e: Edge, words: &[u32], area: &mut [u32]) -> Outcome {
+fn call_row(call: Call, e: Edge, words: &[u32], area: &mut [u32]) -> Outcome {
     compare_cases::mark(area);
     let o = answer(call, e, words, area);
     compare_tallies::left(o, compare_cases::is_marked(area))
@@ -67,7 +67,7 @@ fn put_others(call: Call, words: &mut [u32]) {
     }
 }
 
-fn edge(call: Call, e: Edge, words: &mut [u32], area: &mut [u32]) -> Outcome {
+fn run_row(call: Call, e: Edge, words: &mut [u32], area: &mut [u32]) -> Outcome {
     let lent = e.3;
     let room = e.6;
     if words.len() < lent {
@@ -78,12 +78,12 @@ fn edge(call: Call, e: Edge, words: &mut [u32], area: &mut [u32]) -> Outcome {
     }
     put_others(call, words);
     compare_cases::put(words, e.4, e.5);
-    run(call, e, &words[0..lent], &mut area[0..room])
+    call_row(call, e, &words[0..lent], &mut area[0..room])
 }
 
 fn edge_case(t: Tally, call: Call, i: usize, words: &mut [u32], area: &mut [u32]) -> Tally {
     let e = compare_rows::row(call, i);
-    compare_tallies::edge(t, i, 0, edge(call, e, words, area), e.7)
+    compare_tallies::tally_edge(t, i, 0, run_row(call, e, words, area), e.7)
 }
 
 // ---- all tables
@@ -117,13 +117,13 @@ pub fn tally(call: Call, measure: usize, words: &mut [u32], area: &mut [u32]) ->
 // Words 2 and 1, where nothing refused it.
 fn words_of_a(o: Outcome, first: u32, second: u32) -> Tally {
     let none = compare_tallies::no_cases(Group::TableOfA);
-    let t = compare_tallies::edge(none, 0, 0, o, 0);
+    let t = compare_tallies::tally_edge(none, 0, 0, o, 0);
     let case = compare_tallies::numbered(1, 0);
-    let got = compare_tallies::word(first);
-    let u = compare_tallies::compared(t, b"A", case, got, compare_tallies::word(2));
+    let got = compare_tallies::of_word(first);
+    let u = compare_tallies::compared(t, b"A", case, got, compare_tallies::of_word(2));
     let next = compare_tallies::at_part(case, 1);
-    let last = compare_tallies::word(second);
-    compare_tallies::compared(u, b"A", next, last, compare_tallies::word(1))
+    let last = compare_tallies::of_word(second);
+    compare_tallies::compared(u, b"A", next, last, compare_tallies::of_word(1))
 }
 
 // As 01 states it.

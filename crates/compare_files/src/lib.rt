@@ -9,13 +9,13 @@ use recording::Reading;
 const LIMIT: usize = 40;
 
 // A case with the boards and the picks of its file, and how that was read.
-struct Found {
+struct Loaded {
     case: Case,
     read: Outcome,
 }
 
 // A refused file leaves every word of the output.
-fn found_in(case: Case, r: Reading, kept: bool) -> Found {
+fn found_in(case: Case, r: Reading, kept: bool) -> Loaded {
     match r {
         Reading::Read { boards, picks } => {
             let sized = Case {
@@ -23,28 +23,28 @@ fn found_in(case: Case, r: Reading, kept: bool) -> Found {
                 picks: picks,
                 ..case
             };
-            Found {
+            Loaded {
                 case: sized,
                 read: compare_tallies::refused(0),
             }
         }
-        Reading::Refused(c) => Found {
+        Reading::Refused(c) => Loaded {
             case: case,
             read: compare_tallies::left(compare_tallies::refused(model::number_of(c)), kept),
         },
     }
 }
 
-fn read(case: Case, bytes: &[u8], words: &mut [u32]) -> Found {
+fn read_case(case: Case, bytes: &[u8], words: &mut [u32]) -> Loaded {
     compare_cases::mark(words);
     let r = recording::read(bytes, LIMIT, words);
     found_in(case, r, compare_cases::is_marked(words))
 }
 
-fn load(case: Case, name: &[u8], words: &mut [u32]) -> Found {
+fn load_case(case: Case, name: &[u8], words: &mut [u32]) -> Loaded {
     let fd = os::open_read(name);
     if fd < 0 {
-        return Found {
+        return Loaded {
             case: case,
             read: compare_tallies::not_run(),
         };
@@ -52,7 +52,7 @@ fn load(case: Case, name: &[u8], words: &mut [u32]) -> Found {
     let mut bytes = io::buffer();
     let n = io::read_full(fd, &mut bytes);
     libc::close(fd);
-    read(case, &bytes[..n], words)
+    read_case(case, &bytes[..n], words)
 }
 
 // ---- what is done with a case
@@ -92,7 +92,7 @@ fn stated_case(
 }
 
 // A recording against the second implementation; a recording against what is stated of it; how a file is read.
-fn found_case(t: Tally, f: Found, text: &[u8], words: &[u32], area: &mut [u32]) -> Tally {
+fn found_case(t: Tally, f: Loaded, text: &[u8], words: &[u32], area: &mut [u32]) -> Tally {
     let group = t.group;
     let case = f.case;
     let read = f.read;
@@ -114,7 +114,7 @@ fn word_case(t: Tally, case: Case, text: &[u8], words: &mut [u32], area: &mut [u
         return t;
     }
     let end = compare_listed::name_end(text);
-    let f = load(case, &text[0..end], words);
+    let f = load_case(case, &text[0..end], words);
     found_case(t, f, text, words, area)
 }
 

@@ -88,8 +88,8 @@ fn row_case(t: Tally, name: &[u8], case: Case, words: &[u32], out: &[u32]) -> Ta
     requires { ⌜ Sized case ⌝ }
 {
     let u = row_apart(words, case.boards, case.picks, out);
-    let got = compare_tallies::word(compare_cases::word_at(out, u));
-    let wanted = compare_tallies::word(naive::reach_word(words, case.boards, case.picks, u));
+    let got = compare_tallies::of_word(compare_cases::word_at(out, u));
+    let wanted = compare_tallies::of_word(naive::reach_word(words, case.boards, case.picks, u));
     compare_tallies::compared(t, name, compare_tallies::at_part(case, u), got, wanted)
 }
 

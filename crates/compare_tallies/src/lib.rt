@@ -123,12 +123,12 @@ pub fn left(o: Outcome, kept: bool) -> Outcome {
     }
 }
 
-pub fn word(x: u32) -> Outcome {
+pub fn of_word(x: u32) -> Outcome {
     uncounted(x as usize, 0)
 }
 
 // A length with its counts; length 0 is refusal 9.
-pub fn length(l: usize, compositions: usize, tests: usize) -> Outcome {
+pub fn of_length(l: usize, compositions: usize, tests: usize) -> Outcome {
     let refusal = if l == 0 { 9usize } else { 0usize };
     Outcome {
         value: l,
@@ -162,7 +162,7 @@ pub fn tabled(r: Tabled) -> Outcome {
     }
 }
 
-fn is_same(a: Outcome, b: Outcome) -> bool {
+fn is_same_outcome(a: Outcome, b: Outcome) -> bool {
     (a.value == b.value)
         & (a.refusal == b.refusal)
         & (a.compositions == b.compositions)
@@ -270,7 +270,7 @@ pub fn compared(t: Tally, name: &[u8], case: Case, got: Outcome, wanted: Outcome
     let group = t.group;
     let mut sum = t;
     sum.cases = std::num::wrapping_add_u32(sum.cases, 1);
-    if is_same(got, wanted) {
+    if is_same_outcome(got, wanted) {
         return sum;
     }
     print_mismatch(group, name, case, got, wanted);
@@ -279,7 +279,7 @@ pub fn compared(t: Tally, name: &[u8], case: Case, got: Outcome, wanted: Outcome
 }
 
 // A row of a table of edges: row i is case i + 1.
-pub fn edge(t: Tally, i: usize, measure: usize, got: Outcome, number: usize) -> Tally {
+pub fn tally_edge(t: Tally, i: usize, measure: usize, got: Outcome, number: usize) -> Tally {
     let case = numbered(std::num::wrapping_add_usize(i, 1), measure);
     compared(t, b"row", case, got, refused(number))
 }

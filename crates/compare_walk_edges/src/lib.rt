@@ -94,7 +94,7 @@ fn pick_edge(e: Edge, measure: usize, area: &mut [u32], kept: &mut [u32]) -> Out
 pub fn pick_case(t: Tally, i: usize, measure: usize, area: &mut [u32], kept: &mut [u32]) -> Tally {
     let e = compare_rows::row(Call::Pick, i);
     let number = if measure == 2 { e.6 } else { e.7 };
-    compare_tallies::edge(t, i, measure, pick_edge(e, measure, area, kept), number)
+    compare_tallies::tally_edge(t, i, measure, pick_edge(e, measure, area, kept), number)
 }
 
 // ---- an altered place
@@ -141,11 +141,11 @@ pub fn altered_cases(t: Tally, i: usize, area: &mut [u32], kept: &mut [u32]) -> 
 // A place that was just opened has no length yet, 8; after all its picks it has, and one pick more is refused, 7.
 fn limit_cases(fresh: Place, full: Place, beyond: Outcome) -> Tally {
     let none = compare_tallies::no_cases(Group::Limit);
-    let t = compare_tallies::edge(none, 0, 3, run_length(fresh), 8);
-    let u = compare_tallies::edge(t, 1, 3, beyond, 7);
+    let t = compare_tallies::tally_edge(none, 0, 3, run_length(fresh), 8);
+    let u = compare_tallies::tally_edge(t, 1, 3, beyond, 7);
     let case = compare_tallies::at_part(compare_tallies::numbered(3, 3), MOST_PICKS);
     let length = compare_walks::measured(full, MOST_PICKS);
-    let wanted = compare_tallies::length(1, 0, MOST_PICKS);
+    let wanted = compare_tallies::of_length(1, 0, MOST_PICKS);
     compare_tallies::compared(u, b"full", case, length, wanted)
 }
 

@@ -1,7 +1,7 @@
 // The recording of a case, pick by pick: after each one the length and both counts, against the second implementation.
 ghost use Prim.Native.Nat.{_≤_};
 ghost use Rattle.compare_tallies.specs.Held.{Sized, Held};
-ghost use Rattle.naive_walk.specs.Kept.{Kept};
+ghost use Rattle.naive_walk.specs.Ranges.{BehindPick};
 use calls::Opening;
 use calls::Taking;
 use compare_tallies::Case;
@@ -13,13 +13,13 @@ use place::Place;
 // What the second implementation answers behind the picks of x: the length over all windows, with the counts of its walk on numbers. Where that walk
 // has another length there is no one answer.
 pub fn naive_answer(words: &[u32], case: Case, x: Numbers) -> Outcome
-    requires { ⌜ Sized case × Kept x ⌝ }
+    requires { ⌜ Sized case × BehindPick x ⌝ }
 {
     let l = naive::length(words, case.boards, case.picks, case.measure, x.m);
     if naive_walk::length(case.measure, x) != l {
         return compare_tallies::not_run();
     }
-    compare_tallies::length(l, x.compositions, x.tests)
+    compare_tallies::of_length(l, x.compositions, x.tests)
 }
 
 fn put_list(words: &[u32], n: usize, m: usize, list: &mut [u32])
@@ -70,7 +70,7 @@ pub fn measured(p: Place, k: usize) -> Outcome {
 
 // The case of a place that should have the picks of x.
 fn place_case(t: Tally, name: &[u8], case: Case, words: &[u32], p: Place, x: Numbers) -> Tally
-    requires { ⌜ Sized case × Kept x ⌝ }
+    requires { ⌜ Sized case × BehindPick x ⌝ }
 {
     let got = measured(p, x.m);
     let wanted = naive_answer(words, case, x);

@@ -3,7 +3,7 @@ use mathlib.Core.Path.{_≡_, refl, sym, ap, ap₂, _∙_, subst}
 use mathlib.Core.Bool.{Bool, true, false, not, _&&_, _||_, cond}
 use mathlib.Core.List.{List, _++_}
 use Prim.Native.Nat.{ℕ, zero, suc, _+_, _-_, _*_, _^_, _≤_, _<_, zero-le}
-use native.Mathlib.Nat.{sub-zero, suc-mul, mul-le-mul, mul-le-mul-right, le-refl, eq-or-lt-of-le, le-of-suc-le-suc, lt-of-lt-of-le}
+use native.Mathlib.Nat.{sub-zero, suc-mul, mul-le-mul-right, le-refl, eq-or-lt-of-le, le-of-suc-le-suc, lt-of-lt-of-le}
 use mathlib.Core.Logic.{⊎-elim}
 use borrow.Author.Tests.{eq-eqb, ne-eqb, eqb-true, eqb-false}
 use native.Mathlib.Omega.{arith}
@@ -23,7 +23,7 @@ use Rattle.times.specs.Times.{cell, rows, sooner, later, after, apart, arriveBy
 use Rattle.times.proofs.Rows.{cell-lt, row-le, part-length, Rowed}
 use Rattle.times.proofs.Cells.{length-rows, cell-rows}
 use Rattle.sets.specs.Marks.{someOf, setOf}
-use Rattle.folds.specs.Folds.{each, better, crossBy, crossed, gather, withFold, foldOf, joinedRow, turned, columnSet, Small, Shared}
+use Rattle.folds.specs.Folds.{each, better, crossBy, crossed, gather, withFold, foldOf, joinedRow, transposed, columnSet, Small, Shared}
 use Rattle.sets.proofs.Bits.{row-cell, some-none, bit-set, set-ext, set-lt}
 use Rattle.folds.proofs.Better.{better-none, better-assoc, better-comm, better-self}
 
@@ -241,11 +241,6 @@ crossed-rows late n s t sets folds e f = rows-ext n _ _ n row
         ap (λ (x : ℕ). apart u v (better late (cell n s u v) x)) (a ∙ ap (λ (x : ℕ). gather late n t x n v) b)
         ∙ sym (cross-gather late n s t u v hu hv)
 
--- ---- local arrays
-
-pub square : {n : ℕ} → n ≤ 32 → n * n ≤ 1024
-square h = mul-le-mul h h
-
 -- ---- the two halves of a table
 
 -- a word of the first half, as it is lent
@@ -274,23 +269,24 @@ apart-comm : (u v x : ℕ) → apart v u x ≡ apart u v x
 unfolding apart
 apart-comm u v x = ap (λ (b : Bool). cond b 0 x) (eqb-comm u v)
 
-module _ (n : ℕ) (s t near far : List ℕ) (e : near ≡ rows n (turned n t) n) (f : far ≡ rows n (turned n s) n) where
+module _ (n : ℕ) (s t near far : List ℕ) (e : near ≡ rows n (transposed n t) n) (f : far ≡ rows n (transposed n s) n) where
   cross-depart : (k u v : ℕ) → k ≤ n → u < n → v < n → crossBy true n near far k v u ≡ departBy n s t k u v
   unfolding crossBy departBy better
   cross-depart zero u v h hu hv =
-      ap₂ later (rw e (cell-rows n (turned n t) n v u hv hu)) (rw f (cell-rows n (turned n s) n v u hv hu)) ∙ better-comm true (cell n t u v) (cell n s u v)
+      ap₂ later (rw e (cell-rows n (transposed n t) n v u hv hu)) (rw f (cell-rows n (transposed n s) n v u hv hu))
+      ∙ better-comm true (cell n t u v) (cell n s u v)
   cross-depart (suc k) u v h hu hv =
       ap₂ later (cross-depart k u v (omega arith) hu hv)
-      (ap₂ after (rw e (cell-rows n (turned n t) n v k hv h)) (rw f (cell-rows n (turned n s) n k u h hu)))
+      (ap₂ after (rw e (cell-rows n (transposed n t) n v k hv h)) (rw f (cell-rows n (transposed n s) n k u h hu)))
 
   near-cell : (u v : ℕ) → u < n → v < n → cell n near u v ≡ cell n t v u
-  near-cell u v hu hv = rw e (cell-rows n (turned n t) n u v hu hv)
+  near-cell u v hu hv = rw e (cell-rows n (transposed n t) n u v hu hv)
 
   crossed-apart : (u v : ℕ) → u < n → v < n → crossed true n near far v u ≡ apart u v (departBy n s t n u v)
   unfolding crossed
   crossed-apart u v hu hv = apart-comm u v _ ∙ ap (apart u v) (cross-depart n u v (le-refl n) hu hv)
 
-  -- the fold of column v, which is row v of the turned table
+  -- the fold of column v, which is row v of the transposed table
   cross-column : (sets : List ℕ) → sets ≡ tab (columnSet n t far) n
       → (u v : ℕ) → u < n → v < n → joinedRow true (cell n t u) (λ i. foldOf true n far sets i u) u v ≡ departure n s t u v
   unfolding departure
@@ -300,15 +296,16 @@ module _ (n : ℕ) (s t near far : List ℕ) (e : near ≡ rows n (turned n t) n
       sym (apart-comm u v _) ∙ ap₂ (λ (x y : ℕ). apart v u (better true x (gather true n far y n u))) (sym (near-cell v u hv hu)) d
       ∙ sym (cross-gather true n near far v u hv hu) ∙ crossed-apart u v hu hv
 
-pub crossed-departures : (n : ℕ) (s t far sets folds back : List ℕ) → far ≡ rows n (turned n s) n → sets ≡ tab (columnSet n t far) n
-    → folds ≡ rows n (foldOf true n far sets) n → back ≡ rows n (turned n folds) n
-    → rows n (λ u. joinedRow true (cell n t u) (cell n back u) u) n ≡ departures n s t
+pub crossed-departures : (n : ℕ) (s t far sets folds back : List ℕ) → far ≡ rows n (transposed n s) n → sets ≡ tab (columnSet n t far) n
+    → folds ≡ rows n (foldOf true n far sets) n → back ≡ rows n (transposed n folds) n
+    → rows n (λ u. joinedRow true (cell n back u) (cell n t u) u) n ≡ departures n s t
 unfolding departures
 crossed-departures n s t far sets folds back f q g k =
     rows-ext n _ _ n (λ u v hu hv.
-    let a : cell n back u v ≡ cell n folds v u = rw k (cell-rows n (turned n folds) n u v hu hv) in
+    let a : cell n back u v ≡ cell n folds v u = rw k (cell-rows n (transposed n folds) n u v hu hv) in
     let b : cell n folds v u ≡ foldOf true n far sets v u = rw g (cell-rows n (foldOf true n far sets) n v u hv hu) in
-    ap (λ (x : ℕ). apart u v (better true (cell n t u v) x)) (a ∙ b) ∙ cross-column n s t (rows n (turned n t) n) far refl f sets q u v hu hv)
+    ap (apart u v) (better-comm true (cell n back u v) (cell n t u v) ∙ ap (better true (cell n t u v)) (a ∙ b))
+    ∙ cross-column n s t (rows n (transposed n t) n) far refl f sets q u v hu hv)
 
 -- ---- the sets that are made
 

@@ -59,12 +59,12 @@ joinedRow late f g u v = apart u v (better late (f v) (g v))
 -- ---- departures
 
 -- rows and columns exchanged
-abbrev pub turned : ℕ → List ℕ → ℕ → ℕ → ℕ
-turned n half u v = cell n half v u
+abbrev pub transposed : ℕ → List ℕ → ℕ → ℕ → ℕ
+transposed n half u v = cell n half v u
 
--- the set of column u of t, where far is the other table, turned
+-- the set of column u of t, where far is the other table, transposed
 abbrev pub columnSet : ℕ → List ℕ → List ℕ → ℕ → ℕ
-columnSet n t far u = setOf (turned n t u) n (someOf n far) u
+columnSet n t far u = setOf (transposed n t u) n (someOf n far) u
 
 -- ---- what the loops rely on
 

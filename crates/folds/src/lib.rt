@@ -6,8 +6,8 @@ ghost use mathlib.Core.Bool.{true, false};
 ghost use Prim.Native.Nat.{_+_, _*_, _^_, _≤_, _<_};
 ghost use lib.ListN.{length, getD};
 ghost use Rattle.lists.specs.Tab.{tab, zeros, splice};
-ghost use Rattle.times.specs.Times.{cell, rows, sooner, later, departures, composeTimes};
-ghost use Rattle.folds.specs.Folds.{each, better, rowAt, gather, withFold, foldOf, joinedRow, turned, columnSet, crossed, Small, Shared};
+ghost use Rattle.times.specs.Times.{cell, rows, timesWords, sooner, later, departures, composeTimes};
+ghost use Rattle.folds.specs.Folds.{each, better, rowAt, gather, withFold, foldOf, joinedRow, transposed, columnSet, crossed, Small, Shared};
 use model::Board;
 
 // ---- a row taken in
@@ -29,34 +29,24 @@ fn the_later(x: u32, y: u32) -> u32
     if x <= y { y } else { x }
 }
 
-fn fold_sooner(out: &mut [u32], row: &[u32], n: usize)
-    requires { ⌜ (n ≡ length (now out)) × (n ≡ length (now row)) ⌝ }
-    ensures { λ _. ⌜ now (out .exit) ≡ tab (each sooner (now (out .entry)) (now (row .entry))) n ⌝ }
+// The better of two times: the later one for departures, the earlier one for arrivals.
+fn the_better(x: u32, y: u32, late: bool) -> u32
+    ensures { λ r. ⌜ r ≡ better late x y ⌝ }
 {
-    for v in 0..n {
-        out[v] = the_sooner(out[v], row[v]);
+    if late {
+        return the_later(x, y);
     }
+    the_sooner(x, y)
 }
 
-fn fold_later(out: &mut [u32], row: &[u32], n: usize)
-    requires { ⌜ (n ≡ length (now out)) × (n ≡ length (now row)) ⌝ }
-    ensures { λ _. ⌜ now (out .exit) ≡ tab (each later (now (out .entry)) (now (row .entry))) n ⌝ }
-{
-    for v in 0..n {
-        out[v] = the_later(out[v], row[v]);
-    }
-}
-
-// The words of row join those of out: the later ones for departures, the earlier ones for arrivals.
+// The words of row join those of out. The compiler asks for the direction once, before the loop.
 fn fold(out: &mut [u32], row: &[u32], n: usize, late: bool)
     requires { ⌜ (n ≡ length (now out)) × (n ≡ length (now row)) ⌝ }
     ensures { λ _. ⌜ now (out .exit) ≡ tab (each (better late) (now (out .entry)) (now (row .entry))) n ⌝ }
 {
-    if late {
-        fold_later(out, row, n);
-        return;
+    for v in 0..n {
+        out[v] = the_better(out[v], row[v], late);
     }
-    fold_sooner(out, row, n);
 }
 
 // ---- folds
@@ -135,28 +125,28 @@ fn fold_rows(folds: &mut [u32], later: &[u32], sets: &[u32], n: usize, late: boo
     }
 }
 
-// ---- arrivals
-
 // A row takes in its fold, and has no time for the board itself.
-fn take_fold(row: &mut [u32], joined: &[u32], n: usize, own: Board)
+fn take_fold(row: &mut [u32], joined: &[u32], n: usize, own: Board, late: bool)
     requires { ⌜ (own .0 < n) × ((n ≡ length (now row)) × (n ≡ length (now joined))) ⌝ }
-    ensures { λ _. ⌜ now (row .exit) ≡ tab (joinedRow false (λ v. getD (now (row .entry)) v 0) (λ v. getD (now (joined .entry)) v 0) (own .0)) n ⌝ }
+    ensures { λ _. ⌜ now (row .exit) ≡ tab (joinedRow late (λ v. getD (now (row .entry)) v 0) (λ v. getD (now (joined .entry)) v 0) (own .0)) n ⌝ }
 {
     let u = own.0;
-    fold_sooner(row, joined, n);
+    fold(row, joined, n, late);
     row[u] = 0;
 }
 
-// The rows of a composition over those of the earlier part, which stand in half.
-fn fold_over(half: &mut [u32], folds: &[u32], n: usize)
+// All rows do, where they stand.
+fn fold_over(half: &mut [u32], folds: &[u32], n: usize, late: bool)
     requires { ⌜ (n ≤ 32) × ((n * n ≡ length (now half)) × (n * n ≤ length (now folds))) ⌝ }
-    ensures { λ _. ⌜ now (half .exit) ≡ rows n (λ u. joinedRow false (cell n (now (half .entry)) u) (cell n (now (folds .entry)) u) u) n ⌝ }
+    ensures { λ _. ⌜ now (half .exit) ≡ rows n (λ u. joinedRow late (cell n (now (half .entry)) u) (cell n (now (folds .entry)) u) u) n ⌝ }
 {
     for u in 0..n {
         let at = u * n;
-        take_fold(&mut half[at..at + n], &folds[at..at + n], n, Board(u));
+        take_fold(&mut half[at..at + n], &folds[at..at + n], n, Board(u), late);
     }
 }
+
+// ---- arrivals
 
 // Earliest arrivals, over those of the earlier part: the folds are made before its rows are written. Room is lent for the sets and the folds.
 fn arrive(half: &mut [u32], later: &[u32], sets: &mut [u32], folds: &mut [u32], n: usize)
@@ -166,13 +156,13 @@ fn arrive(half: &mut [u32], later: &[u32], sets: &mut [u32], folds: &mut [u32], 
     let some = sets::some_rows(later, n);
     sets::write(sets, half, n, some);
     fold_rows(folds, later, sets, n, false);
-    fold_over(half, folds, n);
+    fold_over(half, folds, n, false);
 }
 
 // ---- rows and columns exchanged
 
 // Column u of half.
-fn turn_row(out: &mut [u32], half: &[u32], n: usize, own: Board)
+fn transpose_row(out: &mut [u32], half: &[u32], n: usize, own: Board)
     requires { ⌜ (n ≤ 32) × ((own .0 < n) × ((n ≡ length (now out)) × (n * n ≤ length (now half)))) ⌝ }
     ensures { λ _. ⌜ now (out .exit) ≡ tab (λ v. cell n (now (half .entry)) v (own .0)) n ⌝ }
 {
@@ -182,81 +172,48 @@ fn turn_row(out: &mut [u32], half: &[u32], n: usize, own: Board)
     }
 }
 
-fn turn(out: &mut [u32], half: &[u32], n: usize)
+fn transpose(out: &mut [u32], half: &[u32], n: usize)
     requires { ⌜ (n ≤ 32) × ((n * n ≡ length (now out)) × (n * n ≤ length (now half))) ⌝ }
-    ensures { λ _. ⌜ now (out .exit) ≡ rows n (turned n (now (half .entry))) n ⌝ }
+    ensures { λ _. ⌜ now (out .exit) ≡ rows n (transposed n (now (half .entry))) n ⌝ }
 {
     for u in 0..n {
         let at = u * n;
-        turn_row(&mut out[at..at + n], half, n, Board(u));
+        transpose_row(&mut out[at..at + n], half, n, Board(u));
     }
 }
 
 // ---- departures
 
-fn both_later(out: &mut [u32], row: &[u32], joined: &[u32], n: usize)
-    requires { ⌜ (n ≡ length (now out)) × ((n ≡ length (now row)) × (n ≡ length (now joined))) ⌝ }
-    ensures { λ _. ⌜ now (out .exit) ≡ tab (each later (now (row .entry)) (now (joined .entry))) n ⌝ }
-{
-    for v in 0..n {
-        out[v] = the_later(row[v], joined[v]);
-    }
-}
-
-// A row of the composition: the row of the later part with its fold, and no time for the board itself.
-fn cross_row(out: &mut [u32], row: &[u32], joined: &[u32], n: usize, own: Board)
-    requires { ⌜ (own .0 < n) × ((n ≡ length (now out)) × ((n ≡ length (now row)) × (n ≡ length (now joined)))) ⌝ }
-    ensures { λ _. ⌜ now (out .exit) ≡ tab (joinedRow true (λ v. getD (now (row .entry)) v 0) (λ v. getD (now (joined .entry)) v 0) (own .0)) n ⌝ }
-{
-    let u = own.0;
-    both_later(out, row, joined, n);
-    out[u] = 0;
-}
-
-fn cross_rows(out: &mut [u32], half: &[u32], folds: &[u32], n: usize)
-    requires { ⌜ (n ≤ 32) × ((n * n ≡ length (now out)) × ((n * n ≤ length (now half)) × (n * n ≤ length (now folds)))) ⌝ }
-    ensures { λ _. ⌜ now (out .exit) ≡ rows n (λ u. joinedRow true (cell n (now (half .entry)) u) (cell n (now (folds .entry)) u) u) n ⌝ }
-{
-    for u in 0..n {
-        let at = u * n;
-        cross_row(
-            &mut out[at..at + n],
-            &half[at..at + n],
-            &folds[at..at + n],
-            n,
-            Board(u),
-        );
-    }
-}
-
-// The earlier part turned, in far, and the sets of the columns of the later part.
+// The earlier part transposed, in far, and the sets of the columns of the later part.
 fn column_sets(sets: &mut [u32], far: &mut [u32], left: &[u32], right: &[u32], n: usize)
     requires { ⌜ (n ≤ 32) × ((n * n ≤ length (now left)) × ((n * n ≤ length (now right)) × ((n ≡ length (now sets)) × (n * n ≡ length (now far))))) ⌝ }
-    ensures { λ _. ⌜ (now (far .exit) ≡ rows n (turned n (now (left .entry))) n)
+    ensures { λ _. ⌜ (now (far .exit) ≡ rows n (transposed n (now (left .entry))) n)
         × (now (sets .exit) ≡ tab (columnSet n (now (right .entry)) (now (far .exit))) n) ⌝ }
 {
-    turn(far, left, n);
+    transpose(far, left, n);
     let some = sets::some_rows(far, n);
     sets::write_columns(sets, right, n, some);
 }
 
 // Latest departures, over those of the earlier part: columns for rows, and the later part for the earlier. Room is lent for the sets and for
-// a turned table: first that of the earlier part, before the folds are made over it in half, then that of the folds.
+// a transposed table: first that of the earlier part, before the folds are made over it in half, then that of the folds, which take in the
+// later part's rows.
 fn depart(half: &mut [u32], right: &[u32], sets: &mut [u32], far: &mut [u32], n: usize)
     requires { ⌜ (n ≤ 32) × ((n * n ≡ length (now half)) × ((n * n ≤ length (now right)) × ((n ≡ length (now sets)) × (n * n ≡ length (now far))))) ⌝ }
     ensures { λ _. ⌜ now (half .exit) ≡ departures n (now (half .entry)) (now (right .entry)) ⌝ }
 {
     column_sets(sets, far, half, right, n);
     fold_rows(half, far, sets, n, true);
-    turn(far, half, n);
-    cross_rows(half, right, far, n);
+    transpose(far, half, n);
+    fold_over(far, right, n, true);
+    lists::copy_over(half, far, n * n);
 }
 
 // ---- composition
 
 // Both halves, with room lent for sets and for a table.
 fn compose_in(t: &mut [u32], right: &[u32], sets: &mut [u32], room: &mut [u32], n: usize)
-    requires { ⌜ (n ≤ 32) × ((n * n + n * n ≡ length (now t)) × ((n * n + n * n ≤ length (now right))
+    requires { ⌜ (n ≤ 32) × ((timesWords n ≡ length (now t)) × ((timesWords n ≤ length (now right))
         × ((n ≡ length (now sets)) × (n * n ≡ length (now room))))) ⌝ }
     ensures { λ _. ⌜ now (t .exit) ≡ composeTimes n (now (t .entry)) (now (right .entry)) ⌝ }
 {
@@ -265,7 +222,8 @@ fn compose_in(t: &mut [u32], right: &[u32], sets: &mut [u32], room: &mut [u32], 
     depart(&mut t[m..m + m], &right[m..], sets, room, n);
 }
 
-fn no_times() -> [u32; 1024]
+// As many zeros as half of the largest table has words.
+fn no_half() -> [u32; 1024]
     ensures { λ r. ⌜ r ≡ zeros 1024 ⌝ }
 {
     [0u32; 1024]
@@ -273,11 +231,11 @@ fn no_times() -> [u32; 1024]
 
 // t, the earlier part, becomes its composition with right, the later part.
 pub fn compose_over(t: &mut [u32], right: &[u32], n: usize)
-    requires { ⌜ (n ≤ 32) × ((n * n + n * n ≡ length (now t)) × (n * n + n * n ≤ length (now right))) ⌝ }
+    requires { ⌜ (n ≤ 32) × ((timesWords n ≡ length (now t)) × (timesWords n ≤ length (now right))) ⌝ }
     ensures { λ _. ⌜ now (t .exit) ≡ composeTimes n (now (t .entry)) (now (right .entry)) ⌝ }
 {
     let m = n * n;
     let mut sets = lists::no_words();
-    let mut room = no_times();
+    let mut room = no_half();
     compose_in(t, right, &mut sets[0..n], &mut room[0..m], n);
 }

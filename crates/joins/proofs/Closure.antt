@@ -1,9 +1,9 @@
--- Warshall's closure marks the pairs joined within a pick by at most 31 links, on the words as they are found. Assumes nothing.
+-- Warshall's closure marks the pairs joined within a pick by at most `mostLinks`, on the words as they are found. Assumes nothing.
 use mathlib.Core.Path.{_≡_, sym, ap, _∙_, subst}
 use mathlib.Core.Logic.{_≢_, _⊎_, inl, inr, ⊎-elim, _↔_}
 use mathlib.Core.Bool.{Bool, false, _||_, _&&_, not}
 use mathlib.Core.List.{List}
-use Prim.Native.Nat.{ℕ, zero, suc, _^_, _≤_, _<_}
+use Prim.Native.Nat.{ℕ, zero, suc, _-_, _^_, _≤_, _<_}
 use native.Mathlib.Nat.{not-suc-le-zero, le-of-suc-le-suc, eq-or-lt-of-le, lt-of-lt-of-le, le-of-lt, le-suc, le-refl}
 use native.Mathlib.Omega.{arith}
 use lib.Bits.{bitOr, or-zero-r}
@@ -11,6 +11,7 @@ use lib.Dec.{T, eqb}
 use lib.ListN.{length, getD}
 use lib.Seq.{ext-getD}
 use Rattle.model.specs.Recording.{bit, link}
+use Rattle.model.specs.Journey.{mostLinks}
 use Rattle.model.proofs.Logic.{tr, F→≡, bool-ext, or-l, or-r, or-cases, and-both, and-l, and-r, eqb-ne, ne-eqb}
 use Rattle.model.proofs.Bits.{bits-ext, bit-or}
 use Rattle.lists.specs.Tab.{tab, kept}
@@ -105,11 +106,11 @@ length-closed : (n : ℕ) (t : List ℕ) → length (closed n t) ≡ n
 unfolding closed
 length-closed n t = length-tab (clearRow (passes n t n)) n
 
-closed-bit : (n : ℕ) (t : List ℕ) → n ≤ 32 → (u v : ℕ) → u < n → v < 32 → link (closed n t) u v ≡ link (within n 31 t) u v
+closed-bit : (n : ℕ) (t : List ℕ) → n ≤ 32 → (u v : ℕ) → u < n → v < 32 → link (closed n t) u v ≡ link (within n mostLinks t) u v
 closed-bit n t n32 u v hu hv =
     let a = closed-way n t n32 u v hu hv in
-    let b = within-way n 31 t n32 u v hu hv in
-    bool-ext (link (closed n t) u v) (link (within n 31 t) u v)
+    let b = within-way n mostLinks t n32 u v hu hv in
+    bool-ext (link (closed n t) u v) (link (within n mostLinks t) u v)
     (λ m. let q = a .0 m in b .1 (q .0, way-short n32 hu hv (q .0) (q .1 .1)))
     (λ m. let q = b .0 m in a .1 (q .0, (q .1 .0, q .1 .2)))
 
@@ -117,11 +118,11 @@ closed-small : (n : ℕ) (t : List ℕ) (u : ℕ) → u < n → getD (closed n t
 unfolding closed clearRow
 closed-small n t u h = subst (λ (x : ℕ). x < 2 ^ 32) (sym (getD-tab (clearRow (passes n t n)) n u h)) (without-32 (getD (passes n t n) u 0) u)
 
--- THEOREM. The closure is the table of the pairs joined by at most 31 links.
-pub closed-within : (n : ℕ) (t : List ℕ) → n ≤ 32 → closed n t ≡ within n 31 t
+-- THEOREM. The closure is the table of the pairs joined by at most `mostLinks`: it knows no limit.
+pub closed-within : (n : ℕ) (t : List ℕ) → n ≤ 32 → closed n t ≡ within n mostLinks t
 unfolding link
 closed-within n t n32 =
     let z = length-closed n t in
-    ext-getD 0 (closed n t) (within n 31 t) (z ∙ sym (length-within n 31 t))
-    (λ u l. let h : u < n = omega arith in bits-ext 32 (getD (closed n t) u 0) (getD (within n 31 t) u 0) (closed-small n t u h) (within-small n 30 t u h)
-    (λ v hv. closed-bit n t n32 u v h hv))
+    ext-getD 0 (closed n t) (within n mostLinks t) (z ∙ sym (length-within n mostLinks t))
+    (λ u l. let h : u < n = omega arith in bits-ext 32 (getD (closed n t) u 0) (getD (within n mostLinks t) u 0) (closed-small n t u h)
+    (within-small n (mostLinks - 1) t u h) (λ v hv. closed-bit n t n32 u v h hv))

@@ -4,7 +4,7 @@ use mathlib.Core.Path.{_≡_, sym, _∙_, subst}
 use mathlib.Core.Logic.{_≢_, ⊎-elim}
 use mathlib.Core.Bool.{_||_, not}
 use mathlib.Core.List.{List}
-use Prim.Native.Nat.{ℕ, zero, suc, _^_, _≤_, _<_}
+use Prim.Native.Nat.{ℕ, zero, suc, _-_, _^_, _≤_, _<_}
 use native.Mathlib.Nat.{not-suc-le-zero, le-of-suc-le-suc, eq-or-lt-of-le, lt-of-lt-of-le, le-refl}
 use native.Mathlib.Omega.{arith}
 use lib.Dec.{T, eqb}
@@ -12,6 +12,7 @@ use lib.ListN.{getD}
 use lib.Pow.{pow-pos}
 use lib.Seq.{ext-getD}
 use Rattle.model.specs.Recording.{bit, link}
+use Rattle.model.specs.Journey.{mostLinks}
 use Rattle.model.proofs.Logic.{tr, bool-ext, or-l, or-r, or-cases, and-both, and-l, and-r, eqb-ne, ne-eqb, eq-or}
 use Rattle.model.proofs.Bits.{bits-ext, bit-or, bit-high}
 use Rattle.lists.specs.Tab.{tab, anyOf}
@@ -49,40 +50,41 @@ led-out t (suc n) v m =
 
 module _ (n : ℕ) (t : List ℕ) (n32 : n ≤ 32) (everywhere : T (connected n t)) where
   -- from u to any other board below n
-  way-to : (u w : ℕ) → u < n → w < n → u ≢ w → Short n 31 t u w
+  way-to : (u w : ℕ) → u < n → w < n → u ≢ w → Short n mostLinks t u w
   unfolding connected full rowFull
   way-to u w hu hw ne =
-      ⊎-elim (λ (e : u ≡ w). absurd (ne e)) (λ (s : Short n 31 t u w). s)
-      (pair-out n t u w n32 hu hw (every-out (pairFull (within n 31 t) u) n (every-out (rowFull n (within n 31 t)) n everywhere u hu) w hw))
+      ⊎-elim (λ (e : u ≡ w). absurd (ne e)) (λ (s : Short n mostLinks t u w). s)
+      (pair-out n t u w n32 hu hw (every-out (pairFull (within n mostLinks t) u) n (every-out (rowFull n (within n mostLinks t)) n everywhere u hu) w hw))
 
   -- and so to each board that some link leads to
-  reached : (u v : ℕ) → u < n → v < 32 → u ≢ v → T (bit (ledTo t n) v) → Short n 31 t u v
+  reached : (u v : ℕ) → u < n → v < 32 → u ≢ v → T (bit (ledTo t n) v) → Short n mostLinks t u v
   reached u v hu hv ne m =
       let q = led-out t n v m in
       ⊎-elim (λ (e : u ≡ q .0). (1, omega arith, one (subst (λ (x : ℕ). T (link t x v)) (sym e) (q .2))))
       (λ (d : u ≢ q .0). let s = way-to u (q .0) hu (q .1) d in way-short n32 hu hv ne (snoc (s .2) (q .1) (q .2))) (eq-or u (q .0))
 
-  found : (u v : ℕ) → u < n → Short n 31 t u v → T (bit (ledTo t n) v)
+  found : (u v : ℕ) → u < n → Short n mostLinks t u v → T (bit (ledTo t n) v)
   found u v hu s =
       ⊎-elim (λ (l : T (link t u v)). led-in t n u v hu l)
-      (λ (q : (w : ℕ) × (w < n) × Short n 30 t u w × T (link t w v)). led-in t n (q .0) v (q .1) (q .3)) (last-link {h = 30} (s .1) (s .2))
+      (λ (q : (w : ℕ) × (w < n) × Short n (mostLinks - 1) t u w × T (link t w v)). led-in t n (q .0) v (q .1) (q .3))
+      (last-link {h = mostLinks - 1} (s .1) (s .2))
 
-  same-bit : (u v : ℕ) → u < n → v < 32 → link (tab (without (ledTo t n)) n) u v ≡ link (within n 31 t) u v
+  same-bit : (u v : ℕ) → u < n → v < 32 → link (tab (without (ledTo t n)) n) u v ≡ link (within n mostLinks t) u v
   unfolding link
   same-bit u v hu hv =
       let x = ledTo t n in
       let e = link-tab (without x) n u v hu ∙ bit-without x u v (lt-of-lt-of-le hu n32) hv in
-      let w = within-way n 31 t n32 u v hu hv in
-      bool-ext (link (tab (without x) n) u v) (link (within n 31 t) u v)
+      let w = within-way n mostLinks t n32 u v hu hv in
+      bool-ext (link (tab (without x) n) u v) (link (within n mostLinks t) u v)
       (λ m. let b = tr e m in let d = ne-eqb u v (and-r (bit x v) (not (eqb u v)) b) in w .1 (d, reached u v hu hv d (and-l (bit x v) (not (eqb u v)) b)))
       (λ m. let q = w .0 m in tr (sym e) (and-both (bit x v) (not (eqb u v)) (found u v hu (q .1)) (eqb-ne u v (q .0))))
 
   -- THEOREM. Then the closure is written down without a pass.
-  pub everywhere-within : tab (without (ledTo t n)) n ≡ within n 31 t
+  pub everywhere-within : tab (without (ledTo t n)) n ≡ within n mostLinks t
   unfolding link
   everywhere-within =
       let f = without (ledTo t n) in
       let z = length-tab f n in
-      ext-getD 0 (tab f n) (within n 31 t) (z ∙ sym (length-within n 31 t))
-      (λ u l. let h : u < n = omega arith in bits-ext 32 (getD (tab f n) u 0) (getD (within n 31 t) u 0)
-      (subst (λ (x : ℕ). x < 2 ^ 32) (sym (getD-tab f n u h)) (without-32 (ledTo t n) u)) (within-small n 30 t u h) (λ v hv. same-bit u v h hv))
+      ext-getD 0 (tab f n) (within n mostLinks t) (z ∙ sym (length-within n mostLinks t))
+      (λ u l. let h : u < n = omega arith in bits-ext 32 (getD (tab f n) u 0) (getD (within n mostLinks t) u 0)
+      (subst (λ (x : ℕ). x < 2 ^ 32) (sym (getD-tab f n u h)) (without-32 (ledTo t n) u)) (within-small n (mostLinks - 1) t u h) (λ v hv. same-bit u v h hv))

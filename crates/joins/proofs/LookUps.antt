@@ -18,8 +18,7 @@ use Rattle.lists.specs.Tab.{tab, kept, zeros, splice, every}
 use Rattle.lists.proofs.Splice.{word-inside, word-after}
 use Rattle.lists.proofs.Tab.{getD-tab, tab-ext, every-in, every-out, every-ext}
 use Rattle.links.specs.Tables.{without, gathered, composeRow, compose, pairFull, rowFull, full}
-use Rattle.links.proofs.Bits.{link-tab, gathered-bit, Joined, compose-link, bit-without, without-32, zeros-none}
-use Rattle.searches.proofs.Search.{below-pow}
+use Rattle.links.proofs.Bits.{link-tab, gathered-bit, Joined, compose-link, bit-without, without-32, zeros-none, below-pow}
 use Rattle.joins.specs.LookUps.{fourOf, unionsOf, tablesFrom, looked, lookedWord, lookedRow, lookedFull}
 
 -- the table of four rows, as the code writes it: of the union it is enough that a 0 adds nothing

@@ -1,5 +1,5 @@
 -- Warshall's closure, as the code makes it: after k passes a bit says that links lead there over boards below k. `proofs/Closure` has the law:
--- it is `within n 31`.
+-- it is `within n mostLinks`.
 use mathlib.Core.List.{List}
 use Prim.Native.Nat.{ℕ, zero, suc, _<_}
 use lib.Dec.{T}

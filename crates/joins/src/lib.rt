@@ -4,6 +4,7 @@ ghost use mathlib.Core.Path.{_≡_};
 ghost use mathlib.Core.List.{[]};
 ghost use Prim.Native.Nat.{_+_, _/_, _%_, _^_, _≤_, _<_};
 ghost use lib.ListN.{length, getD};
+ghost use Rattle.model.specs.Journey.{mostLinks};
 ghost use Rattle.lists.specs.Tab.{tab, zeros, splice, every};
 ghost use Rattle.links.specs.Tables.{union, throughRow, compose, within, full};
 ghost use Rattle.joins.specs.Columns.{columnRow, fourRow};
@@ -191,7 +192,7 @@ fn join_tables(t: &mut [u32], right: &[u32], n: usize)
 }
 
 // 1 for a row that has links.
-fn one_if(row: u32) -> usize
+fn one_if_linked(row: u32) -> usize
     ensures { λ r. ⌜ r ≤ 1 ⌝ }
 {
     if row == 0 { 0 } else { 1 }
@@ -203,7 +204,7 @@ fn filled(t: &[u32], n: usize) -> usize
 {
     let mut k = 0usize;
     for u in 0..n {
-        k += one_if(t[u]);
+        k += one_if_linked(t[u]);
     }
     k
 }
@@ -227,7 +228,7 @@ fn are_full(left: &[u32], ts: &[[u32; 16]; 8], n: usize) -> bool
     requires { ⌜ (n ≤ 32) × (n ≤ length (now left)) ⌝ }
     ensures { λ r. ⌜ r ≡ every (lookedFull n (now (ts .entry)) (now (left .entry))) n ⌝ }
 {
-    let all = searches::low_bits(n);
+    let all = links::low_bits(n);
     for u in 0..n {
         if through(left[u], Board(u), ts) & all != all {
             return false;
@@ -285,10 +286,10 @@ fn pass_over_all(t: &mut [u32], n: usize)
     }
 }
 
-// The pairs joined within one pick, by Warshall's method: 31 links are no limit for 32 boards.
+// The pairs joined within one pick, by Warshall's method, which knows no limit.
 fn close_by_passes(t: &mut [u32], n: usize)
     requires { ⌜ (n ≤ 32) × (n ≡ length (now t)) ⌝ }
-    ensures { λ _. ⌜ now (t .exit) ≡ within n 31 (now (t .entry)) ⌝ }
+    ensures { λ _. ⌜ now (t .exit) ≡ within n mostLinks (now (t .entry)) ⌝ }
 {
     pass_over_all(t, n);
     clear_own(t, n);
@@ -298,7 +299,7 @@ fn close_by_passes(t: &mut [u32], n: usize)
 // searches tell, and no pass is made.
 fn close(t: &mut [u32], n: usize)
     requires { ⌜ (n ≤ 32) × (n ≡ length (now t)) ⌝ }
-    ensures { λ _. ⌜ now (t .exit) ≡ within n 31 (now (t .entry)) ⌝ }
+    ensures { λ _. ⌜ now (t .exit) ≡ within n mostLinks (now (t .entry)) ⌝ }
 {
     if searches::is_connected(t, n) {
         let boards = lists::any_of(t, n);
@@ -311,7 +312,7 @@ fn close(t: &mut [u32], n: usize)
 // The pairs joined within the pick of the words, over out.
 pub fn close_over(out: &mut [u32], words: &[u32], n: usize)
     requires { ⌜ (n ≤ 32) × ((n ≡ length (now out)) × (n ≡ length (now words))) ⌝ }
-    ensures { λ _. ⌜ now (out .exit) ≡ within n 31 (now (words .entry)) ⌝ }
+    ensures { λ _. ⌜ now (out .exit) ≡ within n mostLinks (now (words .entry)) ⌝ }
 {
     lists::copy_over(out, words, n);
     close(out, n);
@@ -320,7 +321,7 @@ pub fn close_over(out: &mut [u32], words: &[u32], n: usize)
 // The pairs joined within the pick of the words, by value, and zeros up to 32.
 pub fn closed_words(words: &[u32], n: usize) -> [u32; 32]
     requires { ⌜ (n ≤ 32) × (n ≡ length (now words)) ⌝ }
-    ensures { λ r. ⌜ r ≡ splice 0 n (within n 31 (now (words .entry))) (zeros 32) ⌝ }
+    ensures { λ r. ⌜ r ≡ splice 0 n (within n mostLinks (now (words .entry))) (zeros 32) ⌝ }
 {
     let mut t = lists::load(words, n);
     close(&mut t[0..n], n);

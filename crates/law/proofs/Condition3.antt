@@ -14,7 +14,7 @@ use Rattle.model.proofs.Bits.{bit-one, bit-complement}
 use Rattle.model.proofs.Links.{link-from, link-to, links-ext}
 use Rattle.model.proofs.Trips.{Walk, stop, step, Trip, trip-join, trip-split, trip-to, trip-stay, journey-all}
 use Rattle.lists.specs.Tab.{tab, kept}
-use Rattle.links.proofs.Bits.{link-tab, tab-words, bit-kept}
+use Rattle.links.proofs.Bits.{link-tab, tab-words, bit-kept, kept-lt}
 use native.Mathlib.Nat.{le-refl}
 use lib.ListN.{length, getD, length-append}
 use Rattle.model.specs.Measures.{EveryPair, PassesReach}
@@ -23,8 +23,8 @@ use Rattle.model.proofs.Lengths.{Decided, smallest-whole, none-whole}
 use Rattle.model.proofs.Monotone.{reach-up}
 use Rattle.links.specs.Tables.{compose, within, full}
 use Rattle.links.specs.Composed.{reach}
-use Rattle.links.specs.Tells.{Marks}
-use Rattle.links.proofs.Tells.{Reaches, full-test}
+use Rattle.links.specs.Tells.{Marks, Reaches}
+use Rattle.links.proofs.Tells.{full-test}
 use Rattle.law.specs.Condition3.{HasReach, NoReach, SameTables, Around, NeverApart, Condition3Claim}
 use Rattle.law.specs.Faithful.{tableOfWindow}
 use Rattle.law.proofs.Faithful.{window-tells}
@@ -45,10 +45,6 @@ outRow n b u = kept (eqb u b) (2 ^ n - 1 - 2 ^ b)
 -- b has its links to every other board
 pub outOf : ℕ → ℕ → List ℕ
 outOf n b = tab (outRow n b) n
-
-kept-below : (n : ℕ) (c : Bool) (x : ℕ) → x < 2 ^ n → kept c x < 2 ^ n
-kept-below n true x h = h
-kept-below n false x h = pow-pos n
 
 and-T : (a b : Bool) → T (a && b) ↔ (T a × T b)
 and-T true b = (λ t. (tt, t), λ p. p .1)
@@ -74,14 +70,14 @@ unfolding into intoRow
 into-clean n a ha = record { words = w; loopless = λ u m. let q = into-link n a u u (link-from n (into n a) w u u m) .0 m in q .0 (sym (q .1)) }
   where
     w : Words n (tab (intoRow a) n)
-    w = tab-words n (intoRow a) (λ u h. kept-below n (not (eqb u a)) (2 ^ a) (pow-lt {j = n} ha))
+    w = tab-words n (intoRow a) (λ u h. kept-lt n (not (eqb u a)) (2 ^ a) (pow-lt {j = n} ha))
 
 pub out-clean : (n b : ℕ) → b < n → Clean n (outOf n b)
 unfolding outOf outRow
 out-clean n b hb = record { words = w; loopless = λ u m. let h = link-from n (outOf n b) w u u m in let q = out-link n b u u hb h h .0 m in q .1 (sym (q .0)) }
   where
     w : Words n (tab (outRow n b) n)
-    w = tab-words n (outRow n b) (λ u h. kept-below n (eqb u b) (2 ^ n - 1 - 2 ^ b) (omega (arith, pow-pos n)))
+    w = tab-words n (outRow n b) (λ u h. kept-lt n (eqb u b) (2 ^ n - 1 - 2 ^ b) (omega (arith, pow-pos n)))
 
 -- ---- trips over one such pick
 

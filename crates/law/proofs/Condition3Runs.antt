@@ -19,8 +19,11 @@ use Rattle.model.proofs.Logic.{F→≡, le-or-lt, or-l, or-r, eq-refl}
 use Rattle.lists.specs.Tab.{zeros}
 use Rattle.lists.proofs.Tab.{length-zeros, every-in, every-out}
 use Rattle.links.specs.Composed.{reach}
-use Rattle.checks.specs.Lent.{lentPicks, cleanPicks, lentPick, cleanPick}
-use Rattle.checks.proofs.Lent.{length-lent, lent-recording, lent-end}
+use Rattle.links.specs.Picks.{lentPick}
+use Rattle.checks.specs.Lent.{lentPicks, cleanPicks, cleanPick}
+use Rattle.links.proofs.Picks.{lent-end}
+use Rattle.checks.proofs.Lent.{length-lent, lent-recording}
+use Rattle.measures.specs.Kit.{hops01}
 use Rattle.verdicts.specs.Verdicts.{needed, wholeCauses, wholeVerdict}
 use Rattle.calls.specs.Answers.{Outcome, outcome}
 use Rattle.calls.specs.Calls.{wholeReport, wholeSays}
@@ -30,7 +33,7 @@ use Rattle.law.specs.Course.{tables}
 use Rattle.law.specs.Claim2.{lentRecording}
 use Rattle.law.specs.Claim3.{Lent, SameWritten, Between, RunsNeverApart, RunsClaim}
 use Rattle.law.specs.Correct.{Right, answered, none-exists}
-use Rattle.law.proofs.Unlimited.{table-marks, condition-3-unlimited}
+use Rattle.law.proofs.Unlimited.{reach-told, condition-3-unlimited}
 use Rattle.law.proofs.Whole.{whole}
 use Rattle.verdicts.proofs.Verdicts.{runs-verdict}
 use Rattle.reach.proofs.Picks.{tables-verdict}
@@ -232,12 +235,12 @@ module _ (n : ℕ) (n2 : 2 ≤ n) where
         (record { some-boards = n2; few = n32; words = all-words; some-picks = omega arith; cap = omega arith; room = room; clean = all-clean })
 
     -- the words written are those of the table of reach
-    table-word : (o : List ℕ) → n ≤ length o → (u : ℕ) → u < n → getD (tableLeaves n w o) u 0 ≡ getD (reach n 31 (lentRecording n w)) u 0
+    table-word : (o : List ℕ) → n ≤ length o → (u : ℕ) → u < n → getD (tableLeaves n w o) u 0 ≡ getD (reach n hops01 (lentRecording n w)) u 0
     unfolding tableLeaves tableOf
     table-word o room u h =
-        let t = table-marks n n32 (lentRecording n w) (recording-clean l) (omega (arith, recording-long l)) .clean .words .size in
+        let t = reach-told n n32 (lentRecording n w) (recording-clean l) (omega (arith, recording-long l)) .clean .words .size in
         ap (λ (v : ℕ). getD (cond (eqb v 0) (tableOf n w ++ drop n o) o) u 0) (table-passes o room)
-        ∙ List·getD-append (reach n 31 (lentRecording n w)) (drop n o) 0 u (omega arith)
+        ∙ List·getD-append (reach n hops01 (lentRecording n w)) (drop n o) 0 u (omega arith)
 
 -- ---- runs, and the recordings that they read
 
@@ -273,18 +276,18 @@ condition-3-runs n n2 n32 x y i j lx ly i1 i2 j1 j2 =
       λ f. written (c .1 (to f)),
     )
   where
-    word-x : (o : List ℕ) → n ≤ length o → (u : ℕ) → u < n → getD (tableLeaves n x o) u 0 ≡ getD (reach n 31 (lentRecording n x)) u 0
+    word-x : (o : List ℕ) → n ≤ length o → (u : ℕ) → u < n → getD (tableLeaves n x o) u 0 ≡ getD (reach n hops01 (lentRecording n x)) u 0
     word-x = table-word n n2 n32 i x lx i1 (omega arith)
 
-    word-y : (o : List ℕ) → n ≤ length o → (u : ℕ) → u < n → getD (tableLeaves n y o) u 0 ≡ getD (reach n 31 (lentRecording n y)) u 0
+    word-y : (o : List ℕ) → n ≤ length o → (u : ℕ) → u < n → getD (tableLeaves n y o) u 0 ≡ getD (reach n hops01 (lentRecording n y)) u 0
     word-y = table-word n n2 n32 j y ly j1 (omega arith)
 
-    tables : SameWritten n x y → SameTables n 31 (lentRecording n x) (lentRecording n y)
+    tables : SameWritten n x y → SameTables n hops01 (lentRecording n x) (lentRecording n y)
     tables s u h =
         let room : n ≤ length (zeros n) = omega (arith, length-zeros n) in
         sym (word-x (zeros n) room u h) ∙ s (zeros n) (zeros n) room room u h ∙ word-y (zeros n) room u h
 
-    written : SameTables n 31 (lentRecording n x) (lentRecording n y) → SameWritten n x y
+    written : SameTables n hops01 (lentRecording n x) (lentRecording n y) → SameWritten n x y
     written s o p ro rp u h = word-x o ro u h ∙ s u h ∙ sym (word-y p rp u h)
 
     around : (before after : List ℕ) → Between n i j before after

@@ -15,8 +15,8 @@ use Rattle.model.proofs.Monotone.{JourneysDecided, common-down, footprint-up, r
 use Rattle.model.proofs.Links.{link-from, link-to}
 use Rattle.model.proofs.Windows.{pick-at}
 use Rattle.links.specs.Tables.{compose, within}
-use Rattle.links.specs.Tells.{Marks}
-use Rattle.links.proofs.Tells.{marks-once, common-own, common-join, footprint-own, footprint-join, Reaches, reach-own, reach-join, full-test}
+use Rattle.links.specs.Tells.{Marks, Reaches}
+use Rattle.links.proofs.Tells.{marks-once, common-own, common-join, footprint-own, footprint-join, reach-own, reach-join, full-test}
 use Rattle.links.proofs.Tells.{connected-test, same-test, Below}
 use Rattle.times.specs.Tells.{TellsTimes}
 use Rattle.times.proofs.Times.{own-tells, compose-tells, tells-once, tells-test}

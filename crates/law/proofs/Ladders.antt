@@ -8,30 +8,27 @@ use native.Mathlib.Nat.{le-refl}
 use native.Mathlib.Omega.{arith}
 use mathlib.Core.Bool.{Bool, true, false}
 use lib.ListN.{length}
-use lib.Dec.{T, leb, ltb, leb→le, le→leb, ltb→lt, lt→ltb}
-use Rattle.model.proofs.Logic.{eq-or}
-use Rattle.area.specs.Parts.{part, composeAt}
+use lib.Dec.{T, leb, ltb, leb→le, ltb→lt, lt→ltb}
+use Rattle.model.proofs.Logic.{eq-or, not-le}
+use Rattle.area.specs.Parts.{table, partSize, part, tableAt, composeAt}
 use Rattle.place.specs.Places.{picksTaken, startMoved, boundaryMoved, charged, tested}
 use Rattle.steps.specs.Walk.{State, state, ladder, written, rebuilt, joinedArea, joined, extendedBy, extended, entered, windowArea, windowed, judged}
 use Rattle.steps.specs.Walk.{tried, cleared, raisedBy, raised}
-use Rattle.steps.proofs.Frames.{frame-room, ladder-length, ladder-out, written-frame, rebuilt-frame, joined-frame, tried-frame, cleared-frame}
+use Rattle.steps.proofs.Frames.{frame-tables, frame-room, ladder-length, ladder-out, written-frame, rebuilt-frame, joined-frame, tried-frame, cleared-frame}
 use Rattle.area.proofs.Laws.{own-same, compose-same, compose-other, copy-same, zero-same, zero-other}
 use Rattle.law.specs.Ladders.{mOf, sOf, bOf, limitOf, WindowTables, holds, Law, Framed, Laddered, Unjoined}
 
 pub not-lt : (m n : ℕ) → (T (ltb m n) → ⊥) → n ≤ m
 not-lt m n f = let g : m < n → ⊥ = λ h. f (lt→ltb m n h) in omega arith
 
-pub not-le : (m n : ℕ) → (T (leb m n) → ⊥) → n < m
-not-le m n f = let g : m ≤ n → ⊥ = λ h. f (le→leb m n h) in omega arith
-
 module _ (X : WindowTables) (law : Law X) where
   open WindowTables X using (kit as K, own, win, list as l, most as M)
 
   -- ---- the left ladder
 
-  module _ (N : ℕ) (a : List ℕ) (room : N * K .width ≤ length a) (j : ℕ) (high : j ≤ N) where
-    pub ladder-at : (k : ℕ) → k < j → j ≤ M → ((i : ℕ) → j - k ≤ i → i ≤ j → part (K .width) a i ≡ own i)
-        → (i : ℕ) → j - k ≤ i → i ≤ j → part (K .width) (ladder K a j k) i ≡ win i j
+  module _ (N : ℕ) (a : List ℕ) (room : N * partSize K ≤ length a) (j : ℕ) (high : j ≤ N) where
+    pub ladder-at : (k : ℕ) → k < j → j ≤ M → ((i : ℕ) → j - k ≤ i → i ≤ j → tableAt K a i ≡ own i)
+        → (i : ℕ) → j - k ≤ i → i ≤ j → tableAt K (ladder K a j k) i ≡ win i j
     unfolding ladder
     ladder-at zero h z f i x y = let e : i ≡ j = omega arith in f i x y ∙ law .single i (omega arith) (omega arith) ∙ ap (λ (x : ℕ). win i x) e
     ladder-at (suc k) h z f i x y =
@@ -41,13 +38,15 @@ module _ (X : WindowTables) (law : Law X) where
         let ih = ladder-at k (omega arith) z (λ x c d. f x (omega arith) d) in
         ⊎-elim
         (λ (w : i ≡ j - suc k).
-        ap (λ (v : ℕ). part (K .width) (composeAt K q g g (g + 1)) v) w
+        ap (λ (v : ℕ). tableAt K (composeAt K q g g (g + 1)) v) w
         ∙ compose-same K N q (omega arith) g (omega arith) (omega arith) (law .wide) g (g + 1)
-        ∙ ap₂ (K .join) (ladder-out K (law .wide) N a room j high k (omega arith) g (omega arith) (inl (omega arith)) ∙ f g (omega arith) (omega arith)
+        ∙ ap₂ (K .join) (ap (table (K .size)) (ladder-out K (law .wide) N a room j high k (omega arith) g (omega arith) (inl (omega arith)))
+        ∙ f g (omega arith) (omega arith)
         ∙ law .single g (omega arith) (omega arith)) (ih (g + 1) (omega arith) (omega arith))
         ∙ law .split g g j (omega arith) (le-refl g) (omega arith) z ∙ ap (λ (v : ℕ). win v j) (sym w))
-        (λ (ne : i ≢ j - suc k). compose-other K N q (omega arith) g (omega arith) (omega arith) (law .wide) g (g + 1) i (omega arith) ne ∙ ih i
-        (omega arith) y) (eq-or i (j - suc k))
+        (λ (ne : i ≢ j - suc k).
+        ap (table (K .size)) (compose-other K N q (omega arith) g (omega arith) (omega arith) (law .wide) g (g + 1) i (omega arith) ne)
+        ∙ ih i (omega arith) y) (eq-or i (j - suc k))
 
   -- ---- a new pick
 
@@ -60,10 +59,10 @@ module _ (X : WindowTables) (law : Law X) where
       let rm = f .room in
       let bd = c .bound in
       let m = mOf st in
-      let lo : length (K .own (m + 1) w) ≡ K .width = ap length e ∙ law .own-wide (m + 1) (omega arith) z in
+      let lo : length (K .own (m + 1) w) ≡ K .size = ap length e ∙ law .own-wide (m + 1) (omega arith) z in
       let N = limitOf st + 4 in
       let fr = written-frame K k w st rm (omega arith) lo in
-      let other = fr .parts in
+      let other = frame-tables fr in
       record {
         frame = record {
           start = omega arith;
@@ -74,7 +73,7 @@ module _ (X : WindowTables) (law : Law X) where
         bound = omega arith;
         lefts = λ i x y. other i (omega arith) (λ (q : i ≡ m + 1). omega arith) ∙ c .lefts i (omega arith) y;
         owns = λ i x y. ⊎-elim
-            (λ (q : i ≡ m + 1). ap (λ (v : ℕ). part (K .width) (written K k w st .area) v) q ∙ own-same K N (st .area) rm (m + 1) (omega arith)
+            (λ (q : i ≡ m + 1). ap (λ (v : ℕ). tableAt K (written K k w st .area) v) q ∙ own-same K N (st .area) rm (m + 1) (omega arith)
             (omega arith) w lo ∙ e ∙ ap own (sym q))
             (λ (q : i ≢ m + 1). other i (omega arith) q ∙ c .owns i x (omega arith)) (eq-or i (m + 1));
         rights = λ x. let y : m ≡ m + 1 - 1 = omega arith in
@@ -96,18 +95,18 @@ module _ (X : WindowTables) (law : Law X) where
       let N = limitOf st + 4 in
       let q = ladder K (st .area) m k in
       let e = ladder-length K (law .wide) N (st .area) rm m (omega arith) k (omega arith) in
-      let rm2 : N * K .width ≤ length q = omega arith in
+      let rm2 : N * partSize K ≤ length q = omega arith in
       let fr = rebuilt-frame K (law .wide) st rm st1 tp in
       record {
         frame = record {
           start = st1;
           top = tp;
           room = frame-room K st (rebuilt K st) _ fr rm;
-          list = fr .parts (lim + 3) (omega arith) (record { side = inr (omega arith); right = λ (x : lim + 3 ≡ lim + 1). omega arith }) ∙ f .list;
+          list = frame-tables fr (lim + 3) (omega arith) (record { side = inr (omega arith); right = λ (x : lim + 3 ≡ lim + 1). omega arith }) ∙ f .list;
         };
         bound = le-refl m;
         near = omega arith;
-        lefts = λ i x y. zero-other K N q rm2 (lim + 1) (omega arith) (omega arith) i (omega arith) (λ (v : i ≡ lim + 1). omega arith)
+        lefts = λ i x y. ap (table (K .size)) (zero-other K N q rm2 (lim + 1) (omega arith) (omega arith) i (omega arith) (λ (v : i ≡ lim + 1). omega arith))
             ∙ ladder-at N (st .area) rm m (omega arith) k (omega arith) z (λ i x y. g i (omega arith) y) i (omega arith) y;
         owns = λ i x y. absurd (omega arith);
         rights = λ x. absurd (omega arith);
@@ -117,7 +116,7 @@ module _ (X : WindowTables) (law : Law X) where
   -- pick m joins the right ladder
   joined-right : (x : Bool) (st : State) → Unjoined X st → mOf st ≤ M → (T x → bOf st + 1 < mOf st)
       → ((T x → ⊥) → mOf st ≤ bOf st + 1)
-      → part (K .width) (joinedArea K x (st .place) (st .area)) (limitOf st + 1) ≡ win (bOf st + 1) (mOf st)
+      → tableAt K (joinedArea K x (st .place) (st .area)) (limitOf st + 1) ≡ win (bOf st + 1) (mOf st)
   unfolding joinedArea
   joined-right true st c z hi lo =
       let tp = c .frame .top in
@@ -151,7 +150,7 @@ module _ (X : WindowTables) (law : Law X) where
       let b = bOf st in
       let lim = limitOf st in
       let fr = joined-frame K (law .wide) st (f .room) (omega arith) tp in
-      let other = fr .parts in
+      let other = frame-tables fr in
       record {
         frame = record {
           start = st1;
@@ -223,14 +222,15 @@ module _ (X : WindowTables) (law : Law X) where
 
   -- a part that is no part of the ladders is written, the list's apart
   apart : (st : State) (a : List ℕ) (d : ℕ) → Laddered X st → limitOf st + 2 ≤ d → d ≢ limitOf st + 3 → length a ≡ length (st .area)
-      → ((j : ℕ) → 1 ≤ j → j ≢ d → part (K .width) a j ≡ holds X st j) → Laddered X (state (st .place) a)
-  apart st a d c h ne e other =
+      → ((j : ℕ) → 1 ≤ j → j ≢ d → part (partSize K) a j ≡ part (partSize K) (st .area) j) → Laddered X (state (st .place) a)
+  apart st a d c h ne e raw =
       let f = c .frame in
       let st1 = f .start in
       let tp = f .top in
       let rm = f .room in
       let bd = c .bound in
       let lim = limitOf st in
+      let other : (j : ℕ) → 1 ≤ j → j ≢ d → tableAt K a j ≡ holds X st j = λ j x y. ap (table (K .size)) (raw j x y) in
       record {
         frame = record { start = st1; top = tp; room = omega arith; list = other (lim + 3) (omega arith) (λ (x : lim + 3 ≡ d). ne (sym x)) ∙ f .list };
         bound = bd;
@@ -238,7 +238,7 @@ module _ (X : WindowTables) (law : Law X) where
         lefts = λ i x y. other i (omega arith) (λ (q : i ≡ d). omega arith) ∙ c .lefts i x y;
         owns = λ i x y. other i (omega arith) (λ (q : i ≡ d). omega arith) ∙ c .owns i x y;
         rights = λ x. other (lim + 1) (omega arith) (λ (q : lim + 1 ≡ d). omega arith) ∙ c .rights x;
-        empty = λ x. other (lim + 1) (omega arith) (λ (q : lim + 1 ≡ d). omega arith) ∙ c .empty x;
+        empty = λ x. raw (lim + 1) (omega arith) (λ (q : lim + 1 ≡ d). omega arith) ∙ c .empty x;
       }
 
   -- counts and flags are no part of them
@@ -263,7 +263,7 @@ module _ (X : WindowTables) (law : Law X) where
   window-by : (x y : Bool) (st : State) → Laddered X st → mOf st ≤ M → sOf st ≤ mOf st
       → (T x → sOf st ≤ bOf st) → ((T x → ⊥) → bOf st < sOf st)
       → (T y → bOf st < mOf st) → ((T y → ⊥) → mOf st ≤ bOf st)
-      → part (K .width) (windowArea K x y (st .place) (st .area)) (limitOf st + 2) ≡ win (sOf st) (mOf st)
+      → tableAt K (windowArea K x y (st .place) (st .area)) (limitOf st + 2) ≡ win (sOf st) (mOf st)
   unfolding windowArea
   window-by true true st c z h x1 x0 y1 y0 =
       let s = sOf st in
@@ -314,4 +314,4 @@ module _ (X : WindowTables) (law : Law X) where
 
   -- and leaves the last window as it was
   pub cleared-window : (st : State) → Framed X st → holds X (cleared K st) (limitOf st + 2) ≡ holds X st (limitOf st + 2)
-  cleared-window st f = let lim = limitOf st in cleared-frame K st (f .room) .parts (lim + 2) (omega arith) (λ (q : lim + 2 ≡ lim + 4). omega arith)
+  cleared-window st f = let lim = limitOf st in frame-tables (cleared-frame K st (f .room)) (lim + 2) (omega arith) (λ (q : lim + 2 ≡ lim + 4). omega arith)

@@ -9,7 +9,7 @@ use native.Mathlib.Omega.{arith}
 use mathlib.Core.Bool.{Bool, true, false, _&&_, not, cond}
 use mathlib.Core.Option.{none, some}
 use lib.Dec.{T, eqb, ltb, ltb→lt, lt→ltb, T-not, not-T}
-use Rattle.model.proofs.Logic.{T→≡, eq-or, cases, or-l, or-r, or-cases, and-l, and-r, and-both}
+use Rattle.model.proofs.Logic.{T→≡, eq-or, cases, or-l, or-r, or-cases, and-l, and-r, and-both, cond-ind}
 use Rattle.model.proofs.Bits.{val-le}
 use Rattle.model.specs.Length.{Every, Downward}
 use Rattle.model.specs.Journey.{val}
@@ -17,7 +17,7 @@ use Rattle.place.specs.Places.{picksTaken, startMoved, boundaryMoved, charged, 
 use Rattle.steps.specs.Walk.{State, state, written, rebuilt, joined, extendedBy, extended, entered, onLeft, onRight, windowed, judged, tried, cleared}
 use Rattle.steps.specs.Walk.{raisedBy, raised, again, climb, climbed, ended, maxStep, reported}
 use Rattle.area.proofs.Laws.{zero-same, zero-length}
-use Rattle.steps.proofs.Frames.{cond-ind, tried-at, raised-at}
+use Rattle.steps.proofs.Frames.{tried-at, raised-at}
 use Rattle.law.specs.Ladders.{mOf, sOf, bOf, limitOf, WindowTables, holds, Law, Decides, Laddered}
 use Rattle.law.specs.Invariants.{Fails, MaxAnswer, MaxGoing, atEnd, MaxEnded, MaxInvariant, MaxKeepsClaim, MaxReportsClaim}
 use Rattle.law.proofs.Ladders.{not-lt, entered-by, raised-laddered, tried-tests, cleared-laddered, cleared-window}

@@ -5,7 +5,7 @@ use native.Mathlib.Omega.{arith}
 use mathlib.Core.Path.{_≡_, refl, sym, ap, _∙_, subst}
 use mathlib.Core.Bool.{Bool, true, false, _&&_, not, cond}
 use lib.Dec.{T, leb, ltb, leb→le, ltb→lt, eqb}
-use Rattle.model.proofs.Logic.{and-l, and-r, eq-or, and-both}
+use Rattle.model.proofs.Logic.{and-l, and-r, eq-or, and-both, cond-ind}
 use Rattle.model.specs.Journey.{val}
 use mathlib.Core.Logic.{_≢_, ⊎-elim}
 use mathlib.Core.List.{List}
@@ -17,7 +17,6 @@ use Rattle.place.specs.Places.{picksTaken, startMoved, boundaryMoved, charged, 
 use Rattle.steps.specs.Walk.{State, written, rebuilt, joined, extendedBy, extended, entered, onLeft, onRight, windowed, judged, tried, cleared}
 use Rattle.steps.specs.Walk.{minStep, reported}
 use Rattle.area.proofs.Laws.{zero-same}
-use Rattle.steps.proofs.Frames.{cond-ind}
 use Rattle.law.specs.Ladders.{mOf, sOf, bOf, limitOf, WindowTables, Law, Decides, Laddered}
 use Rattle.law.specs.Invariants.{Fails, MinAnswer, MinInvariant, MinKeepsClaim, MinReportsClaim}
 use Rattle.law.proofs.Ladders.{not-lt, entered-by, tried-tests, cleared-laddered, cleared-window}

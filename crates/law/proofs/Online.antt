@@ -11,12 +11,11 @@ use lib.Dec.{T, eqb, eqb→eq}
 use lib.ListN.{length}
 use Rattle.model.specs.Recording.{link, Clean, Recording, pickAt}
 use Rattle.model.proofs.Logic.{F→≡}
-use Rattle.model.proofs.Monotone.{Listed}
+use Rattle.model.specs.Measures.{Listed}
 use Rattle.checks.specs.Checks.{clean, listed}
 use Rattle.checks.proofs.Clean.{clean-is, listed-is}
-use Rattle.measures.specs.Kit.{Kit, widthOf, hops01}
-use Rattle.measures.proofs.Words.{width-links}
-use Rattle.area.specs.Parts.{part}
+use Rattle.measures.specs.Kit.{Kit, kit, hops01}
+use Rattle.area.specs.Parts.{tableAt}
 use Rattle.area.proofs.Laws.{kit-wide, own-wide}
 use Rattle.place.specs.declared.Settings.{Settings}
 use Rattle.place.specs.declared.Place.{Place}
@@ -26,7 +25,7 @@ use Rattle.verdicts.specs.Verdicts.{openVerdict, pickVerdict}
 use Rattle.verdicts.proofs.Verdicts.{open-sound, pick-sound}
 use Rattle.steps.specs.Walk.{State, state, kitOf, stepped, reported}
 use Rattle.steps.proofs.Fit.{measure-of, limit-of}
-use Rattle.steps.proofs.Frames.{stepped-frame}
+use Rattle.steps.proofs.Frames.{frame-tables, stepped-frame}
 use Rattle.model.specs.Causes.{firstOf}
 use Rattle.calls.specs.Answers.{answerBy}
 use Rattle.calls.specs.Calls.{openedArea, openSays, openLeaves, reportSays, lengthSays}
@@ -70,7 +69,7 @@ walked-front K w ws st (suc k) = ap (stepped K (pickAt ws (suc k))) (walked-fron
 -- the settings of a place, and the footprint in its part
 record At (s : Settings) (l : List ℕ) (st : State) : Type 0 where
   same : st .place .settings ≡ s
-  list : part (kitOf (st .place .settings) .width) (st .area) (limitOf st + 3) ≡ l
+  list : tableAt (kitOf (st .place .settings)) (st .area) (limitOf st + 3) ≡ l
 
 -- a pick that is clean, and under measure 2 has links of the footprint only
 record GoodPick (s : Settings) (l w : List ℕ) : Type 0 where
@@ -90,9 +89,7 @@ module _ (s : Settings) (l : List ℕ) where
       let c : Clean n w = clean-is n w (t .shape) .0 (t .clean) in
       record {
         clean = c;
-        listed = λ m. listed-is n l w c .0 (subst (λ (x : List ℕ). T (listed n x w))
-            (ap (λ (x : ℕ). part x (st .area) (limitOf st + 3)) (sym (width-links (st .place .settings .measure) n (λ x. omega arith))) ∙ at .list)
-            (t .listed m));
+        listed = λ m. listed-is n l w c .0 (subst (λ (x : List ℕ). T (listed n x w)) (at .list) (t .listed m));
       }
 
   next-at : (st : State) (w : List ℕ) → At s l st → pickVerdict (st .place) (st .area) w ≡ 0 → At s l (stepped (kitOf (st .place .settings)) w st)
@@ -109,7 +106,7 @@ module _ (s : Settings) (l : List ℕ) where
       (own-wide hops01 (g .measure) (g .boards) (mOf st + 1) w (t .shape)) in
       record {
         same = k ∙ at .same;
-        list = ap (λ (x : Settings). part (kitOf x .width) (q .area) (x .limit + 3)) k ∙ f .parts (limitOf st + 3) (omega arith) (record {
+        list = ap (λ (x : Settings). tableAt (kitOf x) (q .area) (x .limit + 3)) k ∙ frame-tables f (limitOf st + 3) (omega arith) (record {
           beside = record { aside = record { side = inr (omega arith); right = λ x. omega arith }; window = λ x. omega arith };
           own = λ x. omega arith;
           spare = λ x. omega arith;
@@ -159,7 +156,7 @@ length-reports p s h =
 module _ (n measure limit : ℕ) (footprint a : List ℕ) (e : openVerdict n measure limit footprint a ≡ 0) (ws : List (List ℕ))
     (t : EachTaken (openState n measure limit footprint a) ws) where
   abbrev l : List ℕ
-  l = part (widthOf measure n) (openedArea n measure limit footprint a) (limit + 3)
+  l = tableAt (kit measure n) (openedArea n measure limit footprint a) (limit + 3)
 
   walk : Walk (settingsOf measure n limit) l (state (charged (fresh measure n limit) 0) (openedArea n measure limit footprint a)) ws
   unfolding fresh charged
@@ -185,8 +182,14 @@ module _ (n measure limit : ℕ) (footprint a : List ℕ) (e : openVerdict n mea
   abbrev pub takenCourse : Course
   takenCourse =
       let f = open-sound n measure limit footprint a e in
-      courseOf n measure limit footprint a ws (f .some-boards) (f .few) (f .measure-low) (f .measure-high) (f .cap)
-      (f .room) taken-recorded taken-few taken-fits
+      courseOf n measure limit footprint a ws (record {
+        some-boards = f .some-boards;
+        few-boards = f .few;
+        measure-low = f .measure-low;
+        measure-high = f .measure-high;
+        cap = f .cap;
+        room = f .room;
+      }) taken-recorded taken-few taken-fits
 
   pub taken-walks : afterPicks (openState n measure limit footprint a) ws ≡ stateAt takenCourse 0 (length ws)
   taken-walks = ap (λ (x : State). afterPicks x ws) (opened-start n measure limit footprint a e) ∙ walk .walk

@@ -3,7 +3,7 @@
 use mathlib.Core.Path.{_≡_, refl, _∙_, sym, ap, ap₂, subst}
 use mathlib.Core.Bool.{Bool, true, false, _&&_, not, cond}
 use mathlib.Core.List.{List}
-use Prim.Native.Nat.{ℕ, zero, suc, _+_, _-_, _*_, _≤_}
+use Prim.Native.Nat.{ℕ, zero, suc, _+_, _-_, _*_, _≤_, zero-le}
 use native.Mathlib.Omega.{arith}
 use lib.Dec.{eqb, ltb, T, eqb→eq}
 use Rattle.model.specs.Recording.{pickAt}
@@ -14,8 +14,7 @@ use Rattle.place.specs.declared.Place.{Place}
 use Rattle.place.specs.Places.{picksTaken, startMoved, boundaryMoved, charged, tested, Sound, settingsOf, fresh}
 use Rattle.steps.specs.Walk.{State, state, rebuilt, joined, extendedBy, extended, written, entered, windowed, judged, tried, cleared, minStep}
 use Rattle.steps.specs.Walk.{raisedBy, raised, again, climb, climbed, ended, maxStep, stepped, reported}
-use Rattle.steps.proofs.Frames.{cond-ind}
-use Rattle.law.specs.Ladders.{mOf, sOf, bOf, limitOf, WindowTables, holds, Law, Decides, Laddered, Holds, lastEntered, Framed}
+use Rattle.law.specs.Ladders.{mOf, sOf, bOf, limitOf, WindowTables, holds, Zero, Law, Decides, Laddered, Holds, lastEntered, Framed}
 use Rattle.law.specs.Course.{walkFrom, Course, OfDocument, kitIn, listIn, PassesIn, FactsIn, tables, start, stateAt, Charge, CourseTold}
 use Rattle.law.specs.Course.{ToldClaim, PartsClaim}
 use mathlib.Core.Logic.{_≢_, inl, inr}
@@ -23,11 +22,11 @@ use native.Mathlib.Numerals.{add-one}
 use lib.ListN.{length}
 use Rattle.model.specs.Length.{Upward, Downward}
 use Rattle.model.proofs.Lengths.{Agree}
-use Rattle.model.proofs.Logic.{eq-refl, eqb-ne, T→≡, F→≡}
+use Rattle.model.proofs.Logic.{eq-refl, eqb-ne, T→≡, F→≡, cond-ind}
 use Rattle.model.proofs.Windows.{pick-at}
-use Rattle.lists.specs.Tab.{zeros}
 use Rattle.area.proofs.Laws.{join-wide, own-wide}
 use Rattle.steps.proofs.Fit.{boards-of, measure-of, limit-of}
+use Rattle.steps.proofs.Frames.{Numbers, tried-at, raised-at, entered-at}
 use Rattle.calls.proofs.Opened.{opened-list, opened-length, opened-part}
 use Rattle.calls.specs.Answers.{Outcome}
 use Rattle.law.specs.Invariants.{MinAnswer, MinInvariant, MaxAnswer, atEnd, MaxInvariant, MaxGoing}
@@ -51,25 +50,18 @@ pub record Settled (s : Settings) (m : ℕ) (q : Place) : Type 0 where
 settled-on : {s : Settings} {q : Place} {m k : ℕ} {r : Place} → Settled s m q → k ≡ m → Settled (q .settings) k r → Settled s m r
 settled-on a e b = record { settings = b .settings ∙ a .settings; taken = b .taken ∙ e }
 
+-- what a step of the walk does to the numbers of a place, once for all kits
+numbers-settled : {st q : State} {m s from : ℕ} → Numbers st q m s from → Settled (st .place .settings) m (q .place)
+numbers-settled n = record { settings = n .settings; taken = n .taken }
+
 tried-settled : (K : Kit) (st : State) → Settled (st .place .settings) (mOf st) (tried K st .place)
-unfolding tried judged windowed charged tested
-tried-settled K st = record { settings = refl; taken = refl }
+tried-settled K st = numbers-settled (tried-at K st 0 zero-le)
 
 entered-settled : (K : Kit) (k : ℕ) (w : List ℕ) (st : State) → Settled (st .place .settings) (mOf st + 1) (entered K k w st .place)
-unfolding entered extended written startMoved picksTaken extendedBy rebuilt joined charged boundaryMoved
-entered-settled K k w st = go (ltb (bOf st + 1) (sOf st + k))
-  where
-    go : (x : Bool) → Settled (st .place .settings) (mOf st + 1) (extendedBy K x (written K k w st) .place)
-    go true = record { settings = refl; taken = refl }
-    go false = record { settings = refl; taken = refl }
+entered-settled K k w st = numbers-settled (entered-at K k w st)
 
 raised-settled : (K : Kit) (st : State) → Settled (st .place .settings) (mOf st) (raised K st .place)
-unfolding raised startMoved raisedBy rebuilt charged boundaryMoved
-raised-settled K st = go (ltb (bOf st + 1) (sOf st + 1))
-  where
-    go : (x : Bool) → Settled (st .place .settings) (mOf st) (raisedBy K x (state (startMoved (st .place) 1) (st .area)) .place)
-    go true = record { settings = refl; taken = refl }
-    go false = record { settings = refl; taken = refl }
+raised-settled K st = numbers-settled (raised-at K st 0 zero-le)
 
 again-settled : (K : Kit) (st : State) → Settled (st .place .settings) (mOf st) (again K st .place)
 unfolding again
@@ -167,7 +159,7 @@ module _ (c : Course) where
 -- ---- pick after pick
 
 holds-of : {X : WindowTables} {m : ℕ} {st : State} → mOf st ≡ m → Laddered X st → holds X st (limitOf st + 2) ≡ X .win (sOf st) (mOf st)
-    → holds X st (limitOf st + 4) ≡ zeros (X .kit .width) → Holds X m st
+    → Zero X st (limitOf st + 4) → Holds X m st
 holds-of {X} {m} {st} e a w z = subst (λ (x : ℕ). Holds X x st) e (record {
   lefts = a .lefts;
   owns = a .owns;

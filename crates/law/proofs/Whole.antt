@@ -11,14 +11,14 @@ use lib.Dec.{T, eqb, eqb→eq}
 use lib.ListN.{length}
 use Rattle.model.specs.Recording.{link, Clean, Recording, pickAt}
 use Rattle.model.specs.Journey.{Open}
-use Rattle.model.specs.Measures.{SomeLink}
+use Rattle.model.specs.Measures.{SomeLink, Listed}
 use Rattle.model.proofs.Logic.{tr, F→≡, or-l, or-r, or-cases}
 use Rattle.model.proofs.Links.{link-from}
 use Rattle.model.proofs.Windows.{pick-at}
-use Rattle.model.proofs.Monotone.{Listed}
 use Rattle.links.specs.Tables.{union}
 use Rattle.links.proofs.Bits.{zeros-none, zeros-clean, union-link, union-clean}
-use Rattle.checks.specs.Lent.{lentPick, lentPicks, cleanPicks}
+use Rattle.links.specs.Picks.{lentPick}
+use Rattle.checks.specs.Lent.{lentPicks, cleanPicks}
 use Rattle.checks.proofs.Lent.{length-lent, lent-recording, lent-at}
 use Rattle.measures.specs.Kit.{kit}
 use Rattle.area.specs.Parts.{zeroed}
@@ -109,8 +109,15 @@ module _ (n measure : ℕ) (w a : List ℕ) (e : wholeVerdict n measure w a ≡ 
 
   -- the run is a course of the walk
   abbrev pub wholeCourse : Course
-  wholeCourse = courseOf n measure m (unions n w m) a (lentRecording n w) (f .some-boards) (f .few) (f .measure-low) (f .measure-high) (f .cap) (f .room)
-      whole-recorded whole-few whole-fits
+  wholeCourse =
+      courseOf n measure m (unions n w m) a (lentRecording n w) (record {
+        some-boards = f .some-boards;
+        few-boards = f .few;
+        measure-low = f .measure-low;
+        measure-high = f .measure-high;
+        cap = f .cap;
+        room = f .room;
+      }) whole-recorded whole-few whole-fits
 
   pub whole-walks : (k : ℕ) → k ≤ m → wholeAfter n measure m w a k ≡ stateAt wholeCourse (listCost measure m) k
   unfolding wholeAfter stepsOf wholeStart walkFrom

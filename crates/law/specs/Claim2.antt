@@ -7,8 +7,7 @@ use Prim.Native.Nat.{ℕ, _-_, _/_, _≤_}
 use lib.Dec.{T, eqb}
 use lib.ListN.{length}
 use Rattle.model.specs.Recording.{link, Clean, Recording}
-use Rattle.model.specs.Measures.{SomeLink}
-use Rattle.model.proofs.Monotone.{Listed}
+use Rattle.model.specs.Measures.{SomeLink, Listed}
 use Rattle.checks.specs.Lent.{lentPicks}
 use Rattle.place.specs.declared.Place.{Place}
 use Rattle.place.specs.Places.{Sound}

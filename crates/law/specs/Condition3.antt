@@ -10,8 +10,7 @@ use Rattle.model.specs.Journey.{Limit, atMost, unlimited}
 use Rattle.model.specs.Measures.{PassesReach}
 use Rattle.model.specs.Length.{NoLength, HasSmallest}
 use Rattle.links.specs.Composed.{reach}
-use Rattle.links.specs.Tells.{Marks}
-use Rattle.links.proofs.Tells.{Reaches}
+use Rattle.links.specs.Tells.{Marks, Reaches}
 use Rattle.measures.specs.Kit.{hops01}
 
 -- a reach length exists, and none does

@@ -5,6 +5,7 @@ use mathlib.Core.List.{List}
 use Rattle.model.specs.Journey.{Limit, unlimited}
 use Rattle.model.specs.Measures.{PassesCommon, PassesFootprint, PassesReach, PassesRoundTrip}
 use Rattle.model.specs.Length.{Smallest, Largest, NoLength}
+use Rattle.measures.specs.Kit.{turn01}
 use Rattle.calls.specs.Answers.{Outcome}
 
 -- when the window i to j of r passes, by the measure's number: 1 common, 2 return, 3 reach, 4 round trip; journeys cross at most L links in a pick, and
@@ -18,7 +19,7 @@ PassesWith L turn (suc (suc (suc (suc x)))) n footprint r i j = PassesRoundTrip 
 
 -- document 01's: no limit, and a round trip may turn round within a pick
 abbrev pub Passes : ℕ → ℕ → List ℕ → List (List ℕ) → ℕ → ℕ → Type 0
-Passes = PassesWith unlimited 0
+Passes = PassesWith unlimited turn01
 
 -- k is the length: the largest for measure 1, the smallest for the others
 abbrev pub IsLength : ℕ → (ℕ → ℕ → Type 0) → ℕ → ℕ → Type 0

@@ -5,8 +5,8 @@ use Prim.Native.Nat.{ℕ, zero, suc, _+_, _≤_}
 use lib.ListN.{length}
 use Rattle.model.specs.Recording.{Recording, pickAt}
 use Rattle.model.specs.Journey.{atMost}
-use Rattle.measures.specs.Kit.{Kit, hops01, turn01, kitWith, widthOf}
-use Rattle.area.specs.Parts.{part}
+use Rattle.measures.specs.Kit.{Kit, hops01, turn01, kitWith}
+use Rattle.area.specs.Parts.{tableAt}
 use Rattle.place.specs.Places.{fresh, charged, Sound}
 use Rattle.verdicts.specs.Verdicts.{needed}
 use Rattle.steps.specs.Walk.{State, state, stepped, reported}
@@ -42,10 +42,19 @@ pub record Course : Type 0 where
 abbrev pub OfDocument : Course → Type 0
 OfDocument c = (c .hops ≡ hops01) × (c .turn ≡ turn01)
 
-abbrev pub courseOf : (n measure limit : ℕ) (footprint a : List ℕ) (r : List (List ℕ)) → 2 ≤ n → n ≤ 32 → 1 ≤ measure → measure ≤ 4
-    → limit ≤ 4096
-    → needed measure n limit ≤ length a → Recording n r → length r ≤ limit → Fits measure footprint r n → Course
-courseOf n measure limit footprint a r n2 n32 low high cap room rec few fits = record {
+-- what an opening and a whole run are asked alike: ranges, and room in an area of `words` words
+pub record Ranges (n measure limit words : ℕ) : Type 0 where
+  pub some-boards : 2 ≤ n
+  pub few-boards : n ≤ 32
+  pub measure-low : 1 ≤ measure
+  pub measure-high : measure ≤ 4
+  pub cap : limit ≤ 4096
+  pub room : needed measure n limit ≤ words
+
+-- the course of document 01's kit
+abbrev pub courseOf : (n measure limit : ℕ) (footprint a : List ℕ) (r : List (List ℕ)) → Ranges n measure limit (length a) → Recording n r
+    → length r ≤ limit → Fits measure footprint r n → Course
+courseOf n measure limit footprint a r x rec few fits = record {
   hops = hops01;
   turn = turn01;
   n = n;
@@ -54,12 +63,12 @@ courseOf n measure limit footprint a r n2 n32 low high cap room rec few fits = r
   footprint = footprint;
   area = a;
   picks = r;
-  some-boards = n2;
-  few-boards = n32;
-  measure-low = low;
-  measure-high = high;
-  cap = cap;
-  room = room;
+  some-boards = x .some-boards;
+  few-boards = x .few-boards;
+  measure-low = x .measure-low;
+  measure-high = x .measure-high;
+  cap = x .cap;
+  room = x .room;
   recorded = rec;
   few = few;
   fits = fits;
@@ -68,12 +77,12 @@ courseOf n measure limit footprint a r n2 n32 low high cap room rec few fits = r
 abbrev pub kitIn : Course → Kit
 kitIn c = kitWith (c .hops) (c .turn) (c .measure) (c .n)
 
--- the area as opening leaves it, and what its part limit + 3 then holds
+-- the area as opening leaves it, and the table of its part limit + 3
 abbrev pub openedIn : Course → List ℕ
 openedIn c = openedArea (c .n) (c .measure) (c .limit) (c .footprint) (c .area)
 
 abbrev pub listIn : Course → List ℕ
-listIn c = part (widthOf (c .measure) (c .n)) (openedIn c) (c .limit + 3)
+listIn c = tableAt (kitIn c) (openedIn c) (c .limit + 3)
 
 -- when a window passes
 abbrev pub PassesIn : Course → ℕ → ℕ → Type 0

@@ -1,15 +1,15 @@
 -- ONE RECORD OF FACTS FOR EACH MEASURE: what its tables tell, that its test tells when a window passes, and which way passing is monotone. `hops` is the
 -- most links in one pick, `turn` the picks that turning round takes; l is the list that measure 2 tests against. `Kits.facts` has them of each.
 use mathlib.Core.Path.{_≡_}
-use mathlib.Core.Logic.{_≢_, _↔_}
+use mathlib.Core.Logic.{_↔_}
 use mathlib.Core.List.{List}
 use Prim.Native.Nat.{ℕ, zero, suc, _≤_}
 use lib.Dec.{T}
 use lib.ListN.{length}
-use Rattle.model.specs.Journey.{Limit, atMost, Journey}
+use Rattle.model.specs.Journey.{Limit, atMost}
 use Rattle.model.specs.Measures.{CommonLink, SomeLink}
 use Rattle.model.specs.Length.{Upward, Downward}
-use Rattle.links.specs.Tells.{Marks}
+use Rattle.links.specs.Tells.{Marks, Reaches}
 use Rattle.times.specs.Tells.{TellsTimes}
 use Rattle.measures.specs.Kit.{Kit, kitWith}
 use Rattle.law.specs.Faithful.{Faithful}
@@ -23,7 +23,7 @@ abbrev pub ComposesWith : Limit → ℕ → ℕ → List (List ℕ) → ℕ → 
 ComposesWith L zero n r i j t = ⊥
 ComposesWith L (suc zero) n r i j t = Marks n (CommonLink r i j) t
 ComposesWith L (suc (suc zero)) n r i j t = Marks n (SomeLink r i j) t
-ComposesWith L (suc (suc (suc zero))) n r i j t = Marks n (λ u v. (u ≢ v) × Journey r L i j u v) t
+ComposesWith L (suc (suc (suc zero))) n r i j t = Marks n (Reaches r L i j) t
 ComposesWith L (suc (suc (suc (suc x)))) n r i j t = TellsTimes r n L i j t
 
 -- the test of K against l tells, of what `Tells` says is the table of a window of r, whether the window passes

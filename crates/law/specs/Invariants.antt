@@ -1,5 +1,6 @@
 -- THE INVARIANTS of the walk, after each pick, over any kit: P says when a window passes.
 use mathlib.Core.Path.{_≡_}
+use Rattle.area.specs.Parts.{partSize}
 use mathlib.Core.Logic.{_⊎_}
 use mathlib.Core.List.{List}
 use Prim.Native.Nat.{ℕ, suc, _+_, _-_, _*_, _≤_, _<_}
@@ -7,11 +8,10 @@ use mathlib.Core.Bool.{not}
 use mathlib.Core.Option.{Option, none, some}
 use lib.Dec.{T, eqb}
 use Rattle.model.specs.Length.{Smallest, NoLength, Upward, Largest, Downward}
-use Rattle.lists.specs.Tab.{zeros}
 use Rattle.model.specs.Journey.{val}
 use Rattle.place.specs.Places.{windowAs}
 use Rattle.steps.specs.Walk.{State, minStep, reported, state, maxStep}
-use Rattle.law.specs.Ladders.{mOf, sOf, bOf, limitOf, WindowTables, holds, Law, Decides, Laddered}
+use Rattle.law.specs.Ladders.{mOf, sOf, bOf, limitOf, WindowTables, holds, Zero, Law, Decides, Laddered}
 use lib.ListN.{length}
 use Rattle.place.specs.declared.Place.{Place}
 
@@ -38,7 +38,7 @@ pub record MinInvariant (X : WindowTables) (P : ℕ → ℕ → Type 0) (c : ℕ
   pub inside : 1 ≤ mOf st → sOf st ≤ mOf st
   -- part limit + 2 is the last window tested, s to m, and part limit + 4 is zero
   pub window : 1 ≤ mOf st → holds X st (limitOf st + 2) ≡ X .win (sOf st) (mOf st)
-  pub spare : holds X st (limitOf st + 4) ≡ zeros (X .kit .width)
+  pub spare : Zero X st (limitOf st + 4)
   pub good : T (st .place .marks .passed) → P (sOf st) (mOf st)
   pub bad : 1 ≤ mOf st → (T (st .place .marks .passed) → ⊥) → P (sOf st) (mOf st) → ⊥
   -- windows of this row that begin before s pass
@@ -74,7 +74,7 @@ pub record MaxGoing (X : WindowTables) (P : ℕ → ℕ → Type 0) (st : State)
   pub ahead : sOf st + val (st .place .marks .failed) ≤ mOf st + 1
   pub inside : 1 ≤ mOf st → sOf st ≤ mOf st
   pub window : 1 ≤ mOf st → holds X st (limitOf st + 2) ≡ X .win (sOf st) (mOf st)
-  pub spare : holds X st (limitOf st + 4) ≡ zeros (X .kit .width)
+  pub spare : Zero X st (limitOf st + 4)
   pub good : 1 ≤ mOf st → T (st .place .marks .passed)
   -- every window up to this row passes
   pub upto : (i j : ℕ) → 1 ≤ i → i ≤ j → j ≤ mOf st → suc j ≤ i + (mOf st + 1 - sOf st) → P i j
@@ -95,10 +95,10 @@ pub record MaxEnded (X : WindowTables) (P : ℕ → ℕ → Type 0) (st : State)
   pub near : sOf st ≤ bOf st + 1
   pub bound : bOf st ≤ mOf st
   pub inside : sOf st ≤ mOf st
-  pub room : (limitOf st + 4) * X .kit .width ≤ length (st .area)
+  pub room : (limitOf st + 4) * partSize (X .kit) ≤ length (st .area)
   pub ladders : Laddered X (state (atEnd (st .place)) (st .area))
   pub window : holds X st (limitOf st + 2) ≡ X .win (sOf st) (sOf st)
-  pub spare : holds X st (limitOf st + 4) ≡ zeros (X .kit .width)
+  pub spare : Zero X st (limitOf st + 4)
   pub bad : T (st .place .marks .passed) → ⊥
   pub single : Fails P (mOf st) 1
   pub count-tests : st .place .counts .tests .0 ≤ 2 * mOf st

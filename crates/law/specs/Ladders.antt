@@ -7,10 +7,9 @@ use mathlib.Core.Bool.{_&&_, not, cond}
 use lib.ListN.{length}
 use lib.Dec.{T, eqb}
 use Rattle.lists.specs.Tab.{zeros}
-use Rattle.measures.specs.Kit.{Kit}
-use Rattle.area.specs.Parts.{part}
+use Rattle.measures.specs.Kit.{Kit, Wide}
+use Rattle.area.specs.Parts.{partSize, part, tableAt}
 use Rattle.steps.specs.Walk.{State}
-use Rattle.area.proofs.Laws.{Wide}
 use Rattle.place.specs.declared.Place.{Place}
 
 -- m, s and b of a state, and its limit
@@ -34,14 +33,18 @@ pub record WindowTables : Type 0 where
   pub list : List ℕ
   pub most : ℕ
 
--- what part i holds
+-- the table that part i holds
 abbrev pub holds : WindowTables → State → ℕ → List ℕ
-holds X st i = part (X .kit .width) (st .area) i
+holds X st i = tableAt (X .kit) (st .area) i
 
--- what is asked of them: tables of E words, and the split law
+-- part i is zero
+abbrev pub Zero : WindowTables → State → ℕ → Type 0
+Zero X st i = part (partSize (X .kit)) (st .area) i ≡ zeros (partSize (X .kit))
+
+-- what is asked of them: tables of one size, and the split law
 pub record Law (X : WindowTables) : Type 0 where
   pub wide : Wide (X .kit)
-  pub own-wide : (i : ℕ) → 1 ≤ i → i ≤ X .most → length (X .own i) ≡ X .kit .width
+  pub own-wide : (i : ℕ) → 1 ≤ i → i ≤ X .most → length (X .own i) ≡ X .kit .size
   pub single : (i : ℕ) → 1 ≤ i → i ≤ X .most → X .own i ≡ X .win i i
   pub split : (i k j : ℕ) → 1 ≤ i → i ≤ k → k < j → j ≤ X .most → X .kit .join (X .win i k) (X .win (k + 1) j) ≡ X .win i j
 
@@ -53,7 +56,7 @@ Decides X P = (i j : ℕ) → 1 ≤ i → i ≤ j → j ≤ X .most → T (X .ki
 pub record Framed (X : WindowTables) (st : State) : Type 0 where
   pub start : 1 ≤ sOf st
   pub top : mOf st ≤ limitOf st
-  pub room : (limitOf st + 4) * X .kit .width ≤ length (st .area)
+  pub room : (limitOf st + 4) * partSize (X .kit) ≤ length (st .area)
   pub list : holds X st (limitOf st + 3) ≡ X .list
 
 -- what the parts hold between steps, part by part
@@ -64,7 +67,7 @@ pub record Laddered (X : WindowTables) (st : State) : Type 0 where
   pub lefts : (i : ℕ) → sOf st ≤ i → i ≤ bOf st → holds X st i ≡ X .win i (bOf st)
   pub owns : (i : ℕ) → bOf st < i → i ≤ mOf st → holds X st i ≡ X .own i
   pub rights : bOf st < mOf st → holds X st (limitOf st + 1) ≡ X .win (bOf st + 1) (mOf st)
-  pub empty : bOf st ≡ mOf st → holds X st (limitOf st + 1) ≡ zeros (X .kit .width)
+  pub empty : bOf st ≡ mOf st → Zero X st (limitOf st + 1)
 
 -- and when a pick is written, and has not yet joined
 pub record Unjoined (X : WindowTables) (st : State) : Type 0 where
@@ -80,10 +83,10 @@ pub record Holds (X : WindowTables) (m : ℕ) (st : State) : Type 0 where
   pub lefts : (i : ℕ) → sOf st ≤ i → i ≤ bOf st → holds X st i ≡ X .win i (bOf st)
   pub owns : (i : ℕ) → bOf st < i → i ≤ m → holds X st i ≡ X .own i
   pub rights : bOf st < m → holds X st (limitOf st + 1) ≡ X .win (bOf st + 1) m
-  pub empty : bOf st ≡ m → holds X st (limitOf st + 1) ≡ zeros (X .kit .width)
+  pub empty : bOf st ≡ m → Zero X st (limitOf st + 1)
   pub window : holds X st (limitOf st + 2) ≡ X .win (sOf st) m
   pub list : holds X st (limitOf st + 3) ≡ X .list
-  pub spare : holds X st (limitOf st + 4) ≡ zeros (X .kit .width)
+  pub spare : Zero X st (limitOf st + 4)
 
 -- the last pick that was entered: m, and after the end of measure 1 the ending pick, which is s
 abbrev pub lastEntered : Place → ℕ

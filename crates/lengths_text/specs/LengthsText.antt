@@ -5,7 +5,7 @@ use Prim.Native.Nat.{ℕ, zero, suc, _+_, _*_}
 use lib.Dec.{eqb, ltb}
 use lib.ListN.{take}
 use Rattle.lists.specs.Tab.{zeros}
-use Rattle.measures.specs.Kit.{widthOf}
+use Rattle.area.specs.Parts.{widthOf}
 use Rattle.calls.specs.Answers.{Outcome, outcome}
 use Rattle.calls.specs.Calls.{wholeSays}
 use Rattle.recording.specs.Answers.{Read, readSays, readLeaves}

@@ -14,7 +14,7 @@ use model::Tests;
 use recording::Reading;
 
 // The words of at most 40 picks over 32 boards: a function of its own, so that no proof writes the zeros out.
-fn no_words() -> [u32; 1280]
+fn no_picks() -> [u32; 1280]
     ensures { λ r. ⌜ (r ≡ zeros 1280) × (1280 ≡ length r) ⌝ }
 {
     [0u32; 1280]
@@ -35,7 +35,7 @@ fn answer_of(n: usize, picks: usize, words: &[u32], measure: usize) -> Answer
     if picks == 0 {
         return Answer::Refused(Refusal::NoPick, Compositions(0), Tests(0));
     }
-    let e = measures::width(measure, n);
+    let e = area::width(measure, n);
     if 5676 < 44 * e {
         return Answer::Refused(Refusal::Room, Compositions(0), Tests(0));
     }
@@ -96,7 +96,7 @@ pub fn put_lengths(bytes: &[u8], out: &mut [u8]) -> usize
     ensures { λ r. ⌜ (r ≤ length (now (out .exit))) × (take r (now (out .exit)) ≡ textOf (now (bytes .entry)))
         × (drop r (now (out .exit)) ≡ drop r (now (out .entry))) ⌝ }
 {
-    let mut words = no_words();
+    let mut words = no_picks();
     let at = columns::put_text(out, 0, b"measure length refusal compositions tests\n");
     match recording::read(bytes, 40, &mut words) {
         Reading::Read { boards, picks } => {

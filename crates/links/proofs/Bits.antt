@@ -64,6 +64,10 @@ without-less x w h b =
     ⊎-elim (λ (e : without x w ≡ x). absurd (tr (bit-out x w h) (subst (λ (y : ℕ). T (bit y w)) (sym e) b))) (λ (l : without x w < x). l)
     (eq-or-lt-of-le (and-le-l x (2 ^ 32 - 1 - 2 ^ w)))
 
+pub below-pow : (x : ℕ) → x < 2 ^ x
+below-pow zero = omega arith
+below-pow (suc x) = omega (arith, below-pow x)
+
 -- a board of a set of boards below n is below n
 pub bit-below : {n w : ℕ} (x : ℕ) → x < 2 ^ n → T (bit x w) → w < n
 bit-below {n} {w} x h m = ⊎-elim (λ (l : n ≤ w). absurd (tr (bit-high x w (lt-of-lt-of-le h (pow-mono l))) m)) (λ (l : w < n). l) (le-or-lt n w)
@@ -170,7 +174,7 @@ tab-words n f h = record { size = length-tab f n; small = λ u. go u (decLt u n)
         let k : length (tab f n) ≤ u = omega (arith, length-tab f n) in
         subst (λ (x : ℕ). x < 2 ^ n) (sym (List·getD-eq-default (tab f n) 0 k)) (pow-pos n)
 
-kept-lt : (n : ℕ) (b : Bool) (x : ℕ) → x < 2 ^ n → kept b x < 2 ^ n
+pub kept-lt : (n : ℕ) (b : Bool) (x : ℕ) → x < 2 ^ n → kept b x < 2 ^ n
 kept-lt n true x h = h
 kept-lt n false x h = pow-pos n
 

@@ -21,9 +21,9 @@ none-or a b =
     (λ t. rw (eqb→eq a 0 (and-l (eqb a 0) (eqb b 0) t), eqb→eq b 0 (and-r (eqb a 0) (eqb b 0) t)) (eqb-refl 0))
 
 -- A turn of the loop: x is what it adds to the bad bits, none exactly when the test f passes.
-pub gather : (f : ℕ → Bool) (k bad x : ℕ) → eqb bad 0 ≡ every f k → eqb x 0 ≡ f k → eqb (bitOr bad x) 0 ≡ every f (k + 1)
+pub bad-turn : (f : ℕ → Bool) (k bad x : ℕ) → eqb bad 0 ≡ every f k → eqb x 0 ≡ f k → eqb (bitOr bad x) 0 ≡ every f (k + 1)
 unfolding every
-gather f k bad x e g = none-or bad x ∙ rw (add-one, e, g)
+bad-turn f k bad x e g = none-or bad x ∙ rw (add-one, e, g)
 
 -- words differ in no bit exactly when they are the same
 none-differ : (a b : ℕ) → eqb (bitXor a b) 0 ≡ eqb a b
@@ -33,7 +33,7 @@ none-differ a b =
     (λ t. rw (eqb→eq a b t) (eq-refl (xor-self b)))
 
 -- a turn of a loop that compares the words x of a table with those of a list
-pub gather-same : (l t : List ℕ) (u bad x : ℕ) → eqb bad 0 ≡ every (rowSame l t) u → x ≡ getD t u 0
+pub bad-turn-same : (l t : List ℕ) (u bad x : ℕ) → eqb bad 0 ≡ every (rowSame l t) u → x ≡ getD t u 0
     → eqb (bitOr bad (bitXor x (getD l u 0))) 0 ≡ every (rowSame l t) (u + 1)
 unfolding rowSame
-gather-same l t u bad x e q = gather (rowSame l t) u bad (bitXor x (getD l u 0)) e (none-differ x (getD l u 0) ∙ rw q)
+bad-turn-same l t u bad x e q = bad-turn (rowSame l t) u bad (bitXor x (getD l u 0)) e (none-differ x (getD l u 0) ∙ rw q)

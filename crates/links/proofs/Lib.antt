@@ -4,3 +4,4 @@ pub mod Gather
 pub mod First
 pub mod Ways
 pub mod Tells
+pub mod Picks

@@ -10,7 +10,7 @@ use lib.Dec.{T, eqb, eqb→eq}
 use lib.ListN.{length, getD}
 use lib.Seq.{ext-getD}
 use Rattle.model.specs.Recording.{link, Words, Clean, Recording, pickAt}
-use Rattle.model.specs.Journey.{Limit, atMost, Open, Journey}
+use Rattle.model.specs.Journey.{Limit, atMost, mostLinks, Open, Journey}
 use Rattle.model.specs.Measures.{EveryPair, CommonLink, Leads, here, along, SomeLink}
 use Rattle.model.proofs.Logic.{tr, bool-ext, or-l, or-r, or-cases, and-both, and-l, and-r, eq-or, eq-refl, le-or-lt}
 use Rattle.model.proofs.Links.{link-from, link-to, links-ext}
@@ -19,7 +19,7 @@ use Rattle.model.proofs.Hops.{walk-short}
 use Rattle.model.proofs.Trips.{Walk, stop, step, Hop, journey-one, journey-split, journey-to, journey-wider}
 use Rattle.lists.proofs.Tab.{every-in, every-out}
 use Rattle.links.specs.Tables.{intersection, union, compose, within, pairFull, rowFull, full, connected, rowSame, same}
-use Rattle.links.specs.Tells.{Marks}
+use Rattle.links.specs.Tells.{Reaches, Marks}
 use Rattle.links.proofs.Bits.{zeros-clean, compose-link, compose-clean, intersection-link, intersection-clean, union-link, union-clean}
 use Rattle.links.proofs.Ways.{Way, one, more, Short, within-way}
 
@@ -77,10 +77,6 @@ footprint-join n r i k j s t p q a b = record {
 }
 
 -- ---- measure 3
-
--- a journey between different boards
-abbrev pub Reaches : List (List ℕ) → Limit → ℕ → ℕ → ℕ → ℕ → Type 0
-Reaches r L i j u v = (u ≢ v) × Journey r L i j u v
 
 -- walks in a clean pick are ways over boards below n
 way-walk : {p : List ℕ} {b c u v : ℕ} → Way p b c u v → Walk p c u v
@@ -171,8 +167,8 @@ Below n R = (u v : ℕ) → R u v → (u < n) × (v < n)
 pub connected-test : (n : ℕ) (R : ℕ → ℕ → Type 0) (t : List ℕ) → n ≤ 32 → Below n R → Marks n R t
     → T (connected n t) ↔ EveryPair n (Leads R)
 unfolding connected
-connected-test n R t n32 low a = full-test n (Leads R) (within n 31 t) (λ u v hu hv.
-    let e = within-way n 31 t n32 u v hu (lt-of-lt-of-le hv n32) in (
+connected-test n R t n32 low a = full-test n (Leads R) (within n mostLinks t) (λ u v hu hv.
+    let e = within-way n mostLinks t n32 u v hu (lt-of-lt-of-le hv n32) in (
       λ m. let q = e .0 m in (q .0, leads hu (way-walk (q .1 .2))),
       λ q. e .1 (
         q .0,

@@ -8,6 +8,7 @@ use native.Mathlib.Omega.{arith}
 use lib.Dec.{T}
 use lib.ListN.{length, getD}
 use Rattle.model.specs.Recording.{link}
+use Rattle.model.specs.Journey.{mostLinks}
 use Rattle.model.proofs.Logic.{eq-or}
 use Rattle.model.proofs.Hops.{Path, end, next, path-short}
 use Rattle.lists.proofs.Tab.{length-tab, getD-tab, length-zeros}
@@ -73,7 +74,7 @@ within-way n (suc h) t n32 u v hu hv =
       ),
     )
 
--- ---- 31 links are no limit
+-- ---- `mostLinks` are no limit
 
 -- a step from board to board on the way to v
 abbrev Step : ℕ → List ℕ → ℕ → ℕ → ℕ → Type 0
@@ -94,7 +95,7 @@ path-way n t ne (next {c = c} {u = u} {w = w} {v = v} l s) =
     ))
     (eq-or w v)
 
-pub way-short : {n c u v : ℕ} {t : List ℕ} → n ≤ 32 → u < n → v < 32 → u ≢ v → Way t n c u v → Short n 31 t u v
+pub way-short : {n c u v : ℕ} {t : List ℕ} → n ≤ 32 → u < n → v < 32 → u ≢ v → Way t n c u v → Short n mostLinks t u v
 way-short {n} {t = t} n32 hu hv ne s =
     let q = path-short 32 (λ x w l. ⊎-elim (λ (h : w < n). lt-of-lt-of-le h n32) (λ (e : w ≡ _). subst (λ (y : ℕ). y < 32) (sym e) hv) (l .1))
     (lt-of-lt-of-le hu n32) (way-path s) in

@@ -7,6 +7,7 @@ use lib.Bits.{bitAnd, bitOr}
 use lib.Dec.{eqb}
 use lib.ListN.{getD}
 use Rattle.model.specs.Recording.{bit, link}
+use Rattle.model.specs.Journey.{mostLinks}
 use Rattle.lists.specs.Tab.{tab, kept, zeros, every}
 
 -- the word x with bit u clear
@@ -67,7 +68,7 @@ full n t = every (rowFull n t) n
 
 -- measure 1: links of the table lead from every board to every other
 unfoldable pub connected : ℕ → List ℕ → Bool
-connected n t = full n (within n 31 t)
+connected n t = full n (within n mostLinks t)
 
 -- measure 2: the n words are those of the footprint, as whole words
 unfoldable pub rowSame : List ℕ → List ℕ → ℕ → Bool

@@ -1,12 +1,13 @@
 // Tables of links between n boards, 2 to 32: n words, bit v of word u for the pair u, v. Words are taken as they are found.
 ghost use mathlib.Core.Path.{_≡_};
 ghost use mathlib.Core.Logic.{_≢_};
-ghost use Prim.Native.Nat.{_≤_, _<_};
+ghost use Prim.Native.Nat.{_-_, _*_, _^_, _≤_, _<_};
 ghost use lib.Dec.{T};
 ghost use lib.ListN.{length};
 ghost use Rattle.model.specs.Recording.{bit};
 ghost use Rattle.lists.specs.Tab.{tab};
 ghost use Rattle.links.specs.Tables.{without, intersection, union, same};
+ghost use Rattle.links.specs.Picks.{unitedPicks};
 use model::Board;
 
 // Whether bit b of x is set.
@@ -33,6 +34,17 @@ pub fn board_in(set: u32) -> usize
     ensures { λ r. ⌜ (r < 32) × T (bit set r) ⌝ }
 {
     u32::trailing_zeros(set) as usize
+}
+
+// The word of the bits below n.
+pub fn low_bits(n: usize) -> u32
+    requires { ⌜ n ≤ 32 ⌝ }
+    ensures { λ r. ⌜ r ≡ 2 ^ n - 1 ⌝ }
+{
+    if n == 0 {
+        return 0;
+    }
+    !0u32 >> (32 - n)
 }
 
 // Every row of out becomes the same boards, but for its own bit.
@@ -65,6 +77,20 @@ pub fn unite_into(t: &mut [u32], right: &[u32], n: usize)
     for u in 0..n {
         t[u] = t[u] | right[u];
     }
+}
+
+// The links of each of the picks after the first `from` of m, n words each, join those of out; how many unions were made is counted.
+pub fn unite_picks(out: &mut [u32], words: &[u32], n: usize, from: usize, m: usize) -> usize
+    requires { ⌜ (n ≡ length (now out)) × (m * n ≤ length (now words)) ⌝ }
+    ensures { λ r. ⌜ (r ≡ m - from) × (now (out .exit) ≡ unitedPicks n (now (out .entry)) (now (words .entry)) from (m - from)) ⌝ }
+{
+    let mut made: usize = 0;
+    for k in from..m {
+        let at = k * n;
+        unite_into(out, &words[at..at + n], n);
+        made += 1;
+    }
+    made
 }
 
 // Of the links of t, those stay that `right` has too.

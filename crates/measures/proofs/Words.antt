@@ -1,21 +1,21 @@
--- E and the composition, as tests of the measure say them. Assumes nothing.
+-- The words of a table and the composition, as tests of the measure say them. Assumes nothing.
 use mathlib.Core.Path.{_≡_}
 use mathlib.Core.Logic.{_≢_}
 use mathlib.Core.List.{List}
-use Prim.Native.Nat.{ℕ, _+_, _*_}
+use Prim.Native.Nat.{ℕ}
 use native.Mathlib.Omega.{arith}
 use borrow.Author.Tests.{eq-eqb, ne-eqb}
 use Rattle.links.specs.Tables.{intersection, union, compose, full, same}
-use Rattle.times.specs.Times.{composeTimes}
-use Rattle.measures.specs.Kit.{widthOf, ownOf, joinOf, passOf}
+use Rattle.times.specs.Times.{timesWords}
+use Rattle.measures.specs.Kit.{sizeOf, ownOf, joinOf, passOf}
 
-pub width-times : (measure n : ℕ) → measure ≡ 4 → widthOf measure n ≡ n * n + n * n
-unfolding widthOf
-width-times measure n e = simp (eq-eqb _ _ e)
+pub size-times : (measure n : ℕ) → measure ≡ 4 → sizeOf measure n ≡ timesWords n
+unfolding sizeOf
+size-times measure n e = simp (eq-eqb _ _ e)
 
-pub width-links : (measure n : ℕ) → (measure ≡ 4 → ⊥) → widthOf measure n ≡ n
-unfolding widthOf
-width-links measure n e = simp (ne-eqb _ _ e)
+pub size-links : (measure n : ℕ) → (measure ≡ 4 → ⊥) → sizeOf measure n ≡ n
+unfolding sizeOf
+size-links measure n e = simp (ne-eqb _ _ e)
 
 pub join-union : (measure n : ℕ) (s t : List ℕ) → measure ≡ 2 → union n s t ≡ joinOf measure n s t
 unfolding joinOf
@@ -25,25 +25,17 @@ pub join-common : (measure n : ℕ) (s t : List ℕ) → measure ≢ 4 → measu
 unfolding joinOf
 join-common measure n s t f g h = simp (ne-eqb measure 4 f, ne-eqb measure 3 g, ne-eqb measure 2 h)
 
-pub join-reach : (measure n : ℕ) (s t : List ℕ) → measure ≡ 3 → compose n s t ≡ joinOf measure n s t
-unfolding joinOf
-join-reach measure n s t e = simp (ne-eqb measure 4 (λ f. omega arith), eq-eqb measure 3 e)
-
-pub join-times : (measure n : ℕ) (s t : List ℕ) → measure ≡ 4 → composeTimes n s t ≡ joinOf measure n s t
-unfolding joinOf
-join-times measure n s t e = simp (eq-eqb measure 4 e)
-
 -- the own table of a pick, where it is the pick's words
-pub own-words : (measure n i : ℕ) (w : List ℕ) → measure ≢ 4 → measure ≢ 3 → ownOf 31 measure n i w ≡ w
+pub own-words : (hops measure n i : ℕ) (w : List ℕ) → measure ≢ 4 → measure ≢ 3 → ownOf hops measure n i w ≡ w
 unfolding ownOf
-own-words measure n i w f g = simp (ne-eqb measure 4 f, ne-eqb measure 3 g)
+own-words hops measure n i w f g = simp (ne-eqb measure 4 f, ne-eqb measure 3 g)
 
 -- ---- the test of a composition
 
-pub pass-reach : (measure n : ℕ) (f s t : List ℕ) → measure ≡ 3 → full n (compose n s t) ≡ passOf 0 measure n f (joinOf measure n s t)
+pub pass-reach : (turn measure n : ℕ) (f s t : List ℕ) → measure ≡ 3 → full n (compose n s t) ≡ passOf turn measure n f (joinOf measure n s t)
 unfolding passOf joinOf
-pass-reach measure n f s t e = simp (ne-eqb measure 4 (λ g. omega arith), eq-eqb measure 3 e)
+pass-reach turn measure n f s t e = simp (ne-eqb measure 4 (λ g. omega arith), eq-eqb measure 3 e)
 
-pub pass-union : (measure n : ℕ) (f s t : List ℕ) → measure ≡ 2 → same n f (union n s t) ≡ passOf 0 measure n f (joinOf measure n s t)
+pub pass-union : (turn measure n : ℕ) (f s t : List ℕ) → measure ≡ 2 → same n f (union n s t) ≡ passOf turn measure n f (joinOf measure n s t)
 unfolding passOf joinOf
-pass-union measure n f s t e = simp (ne-eqb measure 4 (λ g. omega arith), ne-eqb measure 3 (λ g. omega arith), eq-eqb measure 2 e)
+pass-union turn measure n f s t e = simp (ne-eqb measure 4 (λ g. omega arith), ne-eqb measure 3 (λ g. omega arith), eq-eqb measure 2 e)

@@ -1,15 +1,18 @@
 -- A measure over n boards, as the walk needs it: the words of a table, a pick's own table, the composition, the test of a table. Only the
 -- definitions here go by the measure's number (1 common, 2 return, 3 reach, 4 round trip); the walk is written once, over a kit.
-use Prim.Native.Nat.{ℕ, _+_, _*_}
-use mathlib.Core.Bool.{Bool, true, false, cond}
+use Prim.Native.Nat.{ℕ}
+use mathlib.Core.Bool.{Bool, cond}
 use mathlib.Core.List.{List}
+use mathlib.Core.Path.{_≡_}
+use lib.ListN.{length}
 use lib.Dec.{eqb}
+use Rattle.model.specs.Journey.{mostLinks}
 use Rattle.links.specs.Tables.{intersection, union, compose, within, full, connected, same}
-use Rattle.times.specs.Times.{composeTimes, ownTimes, allInTime}
+use Rattle.times.specs.Times.{timesWords, composeTimes, ownTimes, allInTime}
 
--- E of document 01: the words of a table
-unfoldable pub widthOf : ℕ → ℕ → ℕ
-widthOf measure n = cond (eqb measure 4) (n * n + n * n) n
+-- the words of a table
+unfoldable pub sizeOf : ℕ → ℕ → ℕ
+sizeOf measure n = cond (eqb measure 4) (timesWords n) n
 
 -- pick i's own table, with at most `hops` links crossed in it
 unfoldable pub ownOf : ℕ → ℕ → ℕ → ℕ → List ℕ → List ℕ
@@ -30,18 +33,22 @@ passOf turn measure n footprint t =
     (cond (eqb measure 2) (same n footprint t) (connected n t)))
 
 pub record Kit : Type 0 where
-  pub width : ℕ
+  pub size : ℕ
   pub own : ℕ → List ℕ → List ℕ
   pub join : List ℕ → List ℕ → List ℕ
   pub pass : List ℕ → List ℕ → Bool
 
+-- its compositions have the words of a table
+abbrev pub Wide : Kit → Type 0
+Wide K = (s t : List ℕ) → length (K .join s t) ≡ K .size
+
 -- the kit with the most links in one pick and the turn-round left open
 abbrev pub kitWith : ℕ → ℕ → ℕ → ℕ → Kit
-kitWith hops turn measure n = record { width = widthOf measure n; own = ownOf hops measure n; join = joinOf measure n; pass = passOf turn measure n }
+kitWith hops turn measure n = record { size = sizeOf measure n; own = ownOf hops measure n; join = joinOf measure n; pass = passOf turn measure n }
 
--- document 01's: 31 links are no limit for 32 boards, and a round trip may turn round within a pick
+-- document 01's settings: no limit on the links in one pick, and a round trip may turn round within a pick. Nothing else says which they are.
 abbrev pub hops01 : ℕ
-hops01 = 31
+hops01 = mostLinks
 
 abbrev pub turn01 : ℕ
 turn01 = 0

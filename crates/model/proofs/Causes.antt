@@ -1,15 +1,15 @@
 -- The first cause of a list. Assumes nothing.
 use Prim.Native.Nat.{ℕ, _≤_}
-use mathlib.Core.Bool.{Bool, true, false, _||_, cond}
+use mathlib.Core.Bool.{Bool, true, false, _&&_, _||_, not, cond}
 use mathlib.Core.List.{List, [], _∷_, _++_}
-use mathlib.Core.Path.{_≡_, refl}
+use mathlib.Core.Path.{_≡_, refl, sym, ap, _∙_}
 use mathlib.Core.Logic.{_↔_, ⊎-elim}
 use native.Mathlib.Omega.{arith}
 use borrow.Author.Tests.{ne-eqb}
-use lib.Dec.{T, eqb, eqb→eq, leb, leb→le}
-use Rattle.model.proofs.Logic.{tr, and-l, and-r, or-cases}
+use lib.Dec.{T, eqb, eqb→eq, leb, leb→le, le→leb}
+use Rattle.model.proofs.Logic.{tr, T→≡, and-l, and-r, and-both, or-cases}
 use Rattle.model.specs.declared.Refusal.{Refusal}
-use Rattle.model.specs.Causes.{Causes, firstOf, NoneHolds, numbered, answers, Among, is-first, is-later, RefusalCauses, firstOr, byNumber}
+use Rattle.model.specs.Causes.{between, Causes, firstOf, NoneHolds, numbered, answers, Among, is-first, is-later, RefusalCauses, firstOr, byNumber}
 
 -- none is left
 pub cause-none : 0 ≡ firstOf []
@@ -93,3 +93,29 @@ module _ {A : Type 0} (refused : Refusal → A) where
   each-refused P [] a e p = p
   each-refused P ((true, r) ∷ cs) a e p = e .0
   each-refused P ((false, r) ∷ cs) a e p = each-refused P cs a (e .1) p
+
+-- ---- a test of a range, as code makes it
+
+pub holds-by : {x y : Bool} → x ≡ y → not x ≡ false → y ≡ true
+holds-by {x} {y} e f = sym e ∙ go x f
+  where
+    go : (x : Bool) → not x ≡ false → x ≡ true
+    go true f = refl
+    go false f = sym f
+
+pub not-of-true : (x : Bool) → T x → not x ≡ false
+not-of-true x t = ap not (T→≡ x t)
+
+-- a range that was checked
+pub between-says : (low x high : ℕ) → between low x high ≡ true → (low ≤ x) × (x ≤ high)
+unfolding between
+between-says low x high e =
+    let t = tr (sym e) tt in
+    (leb→le low x (and-l (leb low x) (leb x high) t), leb→le x high (and-r (leb low x) (leb x high) t))
+
+pub between-in : (low x high : ℕ) → low ≤ x → x ≤ high → between low x high ≡ true
+unfolding between
+between-in low x high a b = T→≡ (leb low x && leb x high) (and-both (leb low x) (leb x high) (le→leb low x a) (le→leb x high b))
+
+pub in-range : (low x high : ℕ) → low ≤ x → x ≤ high → not (between low x high) ≡ false
+in-range low x high a b = ap not (between-in low x high a b)

@@ -10,7 +10,7 @@ use mathlib.Core.List.{List, [], _∷_}
 use lib.ListN.{length}
 use lib.Dec.{T, eqb}
 use Rattle.model.specs.Recording.{link, Words, Recording, window}
-use Rattle.model.specs.Journey.{Limit, unlimited, atMost, val, Journey}
+use Rattle.model.specs.Journey.{Limit, unlimited, atMost, mostLinks, val, Journey}
 use Rattle.model.proofs.Logic.{eq-or, and-both, and-l, and-r, eqb-ne, ne-eqb, T→≡}
 use Rattle.model.proofs.Links.{link-to}
 use Rattle.model.proofs.Windows.{rec-window}
@@ -58,26 +58,26 @@ pub data Path (R : ℕ → ℕ → Type 0) : ℕ → ℕ → ℕ → Type 0 wher
   next : {c u w v : ℕ} → R u w → Path R c w v → Path R (suc c) u v
 
 -- steps of R whose boards all lie in S
-data Among (R : ℕ → ℕ → Type 0) (S : ℕ → Bool) : ℕ → ℕ → Type 0 where
-  halt : {u : ℕ} → T (S u) → Among R S u u
-  move : {u w v : ℕ} → T (S u) → R u w → Among R S w v → Among R S u v
+data PathIn (R : ℕ → ℕ → Type 0) (S : ℕ → Bool) : ℕ → ℕ → Type 0 where
+  halt : {u : ℕ} → T (S u) → PathIn R S u u
+  move : {u w v : ℕ} → T (S u) → R u w → PathIn R S w v → PathIn R S u v
 
 module _ {R : ℕ → ℕ → Type 0} where
-  anywhere : {c u v : ℕ} → Path R c u v → Among R (λ w. true) u v
+  anywhere : {c u v : ℕ} → Path R c u v → PathIn R (λ w. true) u v
   anywhere end = halt tt
   anywhere (next k s) = move tt k (anywhere s)
 
-  starts : {S : ℕ → Bool} {u v : ℕ} → Among R S u v → T (S u)
+  starts : {S : ℕ → Bool} {u v : ℕ} → PathIn R S u v → T (S u)
   starts (halt t) = t
   starts (move t k s) = t
 
   -- after its last visit to u, a path goes on without u
-  leave : {S : ℕ → Bool} {x v : ℕ} (u : ℕ) → u ≢ v → Among R S x v → Among R (less S u) x v ⊎ ((w : ℕ) × R u w × Among R (less S u) w v)
+  leave : {S : ℕ → Bool} {x v : ℕ} (u : ℕ) → u ≢ v → PathIn R S x v → PathIn R (less S u) x v ⊎ ((w : ℕ) × R u w × PathIn R (less S u) w v)
   leave {S = S} u ne (halt {u = v} t) = inl (halt (and-both (S v) (not (eqb v u)) t (eqb-ne v u (λ e. ne (sym e)))))
   leave {S} {v = v} u ne (move {u = x} {w = w} t k s) = go (leave u ne s)
     where
-      go : Among R (less S u) w v ⊎ ((y : ℕ) × R u y × Among R (less S u) y v)
-          → Among R (less S u) x v ⊎ ((y : ℕ) × R u y × Among R (less S u) y v)
+      go : PathIn R (less S u) w v ⊎ ((y : ℕ) × R u y × PathIn R (less S u) y v)
+          → PathIn R (less S u) x v ⊎ ((y : ℕ) × R u y × PathIn R (less S u) y v)
       go (inr r) = inr r
       go (inl r) =
           ⊎-elim (λ (e : x ≡ u). inr (
@@ -87,14 +87,14 @@ module _ {R : ℕ → ℕ → Type 0} where
           )) (λ (d : x ≢ u). inl (move (and-both (S x) (not (eqb x u)) t (eqb-ne x u d)) k r)) (eq-or x u)
 
   -- so a path in a set of at most k boards can be one of fewer than k steps
-  cut : (n : ℕ) → ((u w : ℕ) → R u w → w < n) → (k : ℕ) (S : ℕ → Bool) → num n S ≤ k → (u v : ℕ) → u < n → Among R S u v
+  cut : (n : ℕ) → ((u w : ℕ) → R u w → w < n) → (k : ℕ) (S : ℕ → Bool) → num n S ≤ k → (u v : ℕ) → u < n → PathIn R S u v
       → (c : ℕ) × (c < k) × Path R c u v
   cut n low zero S l u v hu s = absurd (not-suc-le-zero (le-trans (num-less n S u hu (starts s)) l))
   cut n low (suc k) S l u v hu s =
       ⊎-elim (λ (e : u ≡ v). (0, omega arith, subst (λ (y : ℕ). Path R 0 u y) e end))
       (λ (ne : u ≢ v). ⊎-elim
-      (λ (a : Among R (less S u) u v). absurd (ne-eqb u u (and-r (S u) (not (eqb u u)) (starts a)) refl))
-      (λ (a : (w : ℕ) × R u w × Among R (less S u) w v).
+      (λ (a : PathIn R (less S u) u v). absurd (ne-eqb u u (and-r (S u) (not (eqb u u)) (starts a)) refl))
+      (λ (a : (w : ℕ) × R u w × PathIn R (less S u) w v).
       let q = cut n low k (less S u) (omega (arith, num-less n S u hu (starts s))) (a .0) v (low u (a .0) (a .1)) (a .2) in
       let b : q .0 < k = q .1 in
       (suc (q .0), omega arith, next (a .1) (q .2)))
@@ -106,14 +106,14 @@ pub path-short : {R : ℕ → ℕ → Type 0} {c u v : ℕ} (n : ℕ) → ((u w 
 path-short {u = u} {v} n low hu s = cut n low n (λ w. true) (omega (arith, num-all n)) u v hu (anywhere s)
 
 -- walks in one pick are paths along its links
-abbrev Along : List ℕ → ℕ → ℕ → Type 0
-Along p u v = T (link p u v)
+abbrev Linked : List ℕ → ℕ → ℕ → Type 0
+Linked p u v = T (link p u v)
 
-walk-path : {p : List ℕ} {c u v : ℕ} → Walk p c u v → Path (Along p) c u v
+walk-path : {p : List ℕ} {c u v : ℕ} → Walk p c u v → Path (Linked p) c u v
 walk-path stop = end
 walk-path (step k s) = next k (walk-path s)
 
-path-walk : (p : List ℕ) {c u v : ℕ} → Path (Along p) c u v → Walk p c u v
+path-walk : (p : List ℕ) {c u v : ℕ} → Path (Linked p) c u v → Walk p c u v
 path-walk p end = stop
 path-walk p (next k s) = step k (path-walk p s)
 
@@ -130,11 +130,11 @@ trip-any n g L l (p ∷ ps) k u v hu t =
     let b : q .0 < n = q .1 in
     (t .0, (q .0, omega arith, q .2), trip-any n g L l ps (k .1) (t .0) v (walk-to (k .0 .words) hu (t .1 .2)) (t .2))
 
--- THEOREM. With at most 32 boards 31 links in one pick are no limit.
+-- THEOREM. With at most 32 boards `mostLinks` in one pick are no limit.
 pub no-limit : (n : ℕ) → n ≤ 32 → (r : List (List ℕ)) → Recording n r → (i j u v : ℕ) → 1 ≤ i → i ≤ suc j → j ≤ length r → u < n
-    → Journey r unlimited i j u v ↔ Journey r (atMost 31) i j u v
+    → Journey r unlimited i j u v ↔ Journey r (atMost mostLinks) i j u v
 no-limit n n32 r k i j u v a b c hu = (
-  λ f. journey-trip r (atMost 31) i j u v a b c .1 (trip-any n 31 unlimited n32 (window r i j) (rec-window n i j r k) u v hu
+  λ f. journey-trip r (atMost mostLinks) i j u v a b c .1 (trip-any n mostLinks unlimited n32 (window r i j) (rec-window n i j r k) u v hu
       (journey-trip r unlimited i j u v a b c .0 f)),
   λ f. record { picks = f .picks; crosses = f .crosses; hops = λ t. tt },
 )

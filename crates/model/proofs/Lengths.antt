@@ -51,8 +51,8 @@ least Q d (suc m) = go (least Q d m) (d (suc m) (omega arith))
         (eq-or l (suc m)))
 
 -- the window of all picks is the only one of its length
-whole : (P : ℕ → ℕ → Type 0) (m : ℕ) → P 1 m → Every P m m
-whole P m p i j a b c = let e : 1 ≡ i = omega arith in let f : m ≡ j = omega arith in subst (λ (x : ℕ). P x j) e (subst (λ (x : ℕ). P 1 x) f p)
+only-window : (P : ℕ → ℕ → Type 0) (m : ℕ) → P 1 m → Every P m m
+only-window P m p i j a b c = let e : 1 ≡ i = omega arith in let f : m ≡ j = omega arith in subst (λ (x : ℕ). P x j) e (subst (λ (x : ℕ). P 1 x) f p)
 
 -- THEOREM. A smallest length exists exactly when the window of all picks passes, and none exactly when it does not.
 pub smallest-whole : (P : ℕ → ℕ → Type 0) (m : ℕ) → Decided P m → Upward P m → 1 ≤ m → HasSmallest P m ↔ P 1 m
@@ -61,13 +61,13 @@ smallest-whole P m d up h = (
   λ r. let s = r .1 in let l = s .low in let u = s .high in up 1 (r .0) 1 m (omega arith) (omega arith) l u (omega arith) (s .every 1 (r .0) (omega arith) u
       (omega arith)),
   λ p. ⊎-elim (λ (r : Least (Every P m) m). (r .0, record { low = r .1; high = r .2; every = r .3; least = r .4 }))
-      (λ (z : (l : ℕ) → 1 ≤ l → l ≤ m → Every P m l → ⊥). absurd (z m h (omega arith) (whole P m p)))
+      (λ (z : (l : ℕ) → 1 ≤ l → l ≤ m → Every P m l → ⊥). absurd (z m h (omega arith) (only-window P m p)))
       (least (Every P m) (λ k a. dec-length P m k d a) m),
 )
 
 pub none-whole : (P : ℕ → ℕ → Type 0) (m : ℕ) → Upward P m → 1 ≤ m → NoLength P m ↔ (P 1 m → ⊥)
 none-whole P m up h = (
-  λ z p. z m h (omega arith) (whole P m p),
+  λ z p. z m h (omega arith) (only-window P m p),
   λ z k a b e. z (up 1 k 1 m (omega arith) (omega arith) a b (omega arith) (e 1 k (omega arith) b (omega arith))),
 )
 

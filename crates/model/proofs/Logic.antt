@@ -1,12 +1,12 @@
 -- Booleans as statements, and bounded search. Assumes nothing.
 use mathlib.Core.Path.{_≡_, refl, sym, subst}
 use mathlib.Core.Logic.{_≢_, _⊎_, inl, inr, ⊎-elim}
-use mathlib.Core.Bool.{Bool, true, false, _||_, _&&_, not}
+use mathlib.Core.Bool.{Bool, true, false, _||_, _&&_, not, cond}
 use Prim.Native.Nat.{ℕ, zero, suc, _+_, _-_, _≤_, _<_}
 use native.Mathlib.Nat.{not-suc-le-zero, le-refl}
 use native.Mathlib.Decide.{decLt}
 use native.Mathlib.Omega.{arith}
-use lib.Dec.{T, eqb, eqb→eq, eqb-refl}
+use lib.Dec.{T, eqb, leb, eqb→eq, eqb-refl, le→leb}
 
 pub tr : {a b : Bool} → a ≡ b → T a → T b
 tr e h = subst T e h
@@ -23,6 +23,11 @@ F→≡ false f = refl
 pub cases : (a : Bool) → T a ⊎ (T a → ⊥)
 cases true = inl tt
 cases false = inr (λ t. t)
+
+-- what holds of each of two holds of the one that a test chooses
+pub cond-ind : {A : Type 0} (Q : A → Type 0) (x : Bool) (a b : A) → (T x → Q a) → ((T x → ⊥) → Q b) → Q (cond x a b)
+cond-ind Q true a b f g = f tt
+cond-ind Q false a b f g = g (λ t. t)
 
 -- two tests that say the same are one
 pub bool-ext : (a b : Bool) → (T a → T b) → (T b → T a) → a ≡ b
@@ -79,6 +84,9 @@ le-or-lt m n = go (decLt n m)
     go : Dec (n < m) → (m ≤ n) ⊎ (n < m)
     go (yes h) = inr h
     go (no h) = inl (omega arith)
+
+pub not-le : (m n : ℕ) → (T (leb m n) → ⊥) → n < m
+not-le m n f = let g : m ≤ n → ⊥ = λ h. f (le→leb m n h) in omega arith
 
 pub eq-refl : {m n : ℕ} → m ≡ n → T (eqb m n)
 eq-refl {m} e = subst (λ (k : ℕ). T (eqb m k)) e (eqb-refl m)

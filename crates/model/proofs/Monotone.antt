@@ -7,10 +7,8 @@ use native.Mathlib.Nat.{le-refl}
 use native.Mathlib.Omega.{arith}
 use mathlib.Core.List.{List}
 use lib.ListN.{length}
-use lib.Dec.{T}
-use Rattle.model.specs.Recording.{link}
-use Rattle.model.specs.Journey.{Limit, Open, Journey}
-use Rattle.model.specs.Measures.{Leads, here, along, PassesCommon, PassesFootprint, PassesReach, RoundTrip, PassesRoundTrip}
+use Rattle.model.specs.Journey.{Limit, Journey}
+use Rattle.model.specs.Measures.{Listed, Leads, here, along, PassesCommon, PassesFootprint, PassesReach, RoundTrip, PassesRoundTrip}
 use Rattle.model.specs.Length.{Upward, Downward}
 use Rattle.model.proofs.Logic.{first-of, last-of}
 use Rattle.model.proofs.Trips.{journey-wider}
@@ -21,10 +19,6 @@ leads-map f (along {u = a} {w = b} x y) = along (f a b x) (leads-map f y)
 
 pub common-down : (r : List (List ℕ)) (n m : ℕ) → Downward (PassesCommon r n) m
 common-down r n m i j a b p q s t z f u v hu hv ne = leads-map (λ x y g k l m. g k (omega arith) (omega arith)) (f u v hu hv ne)
-
--- no pick has a link outside the footprint
-abbrev pub Listed : List (List ℕ) → List ℕ → Type 0
-Listed r footprint = (t u v : ℕ) → 1 ≤ t → t ≤ length r → Open r t u v → T (link footprint u v)
 
 pub footprint-up : (r : List (List ℕ)) (footprint : List ℕ) → Listed r footprint → Upward (PassesFootprint r footprint) (length r)
 footprint-up r l k i j a b p q s t z f u v = (
@@ -52,7 +46,15 @@ pub record Meeting (r : List (List ℕ)) (L : Limit) (turn i j u v : ℕ) : Type
   pub in-time : a + turn ≤ d
 
 pub round-meeting : {r : List (List ℕ)} {L : Limit} {turn i j u v : ℕ} → RoundTrip r L turn i j u v → Meeting r L turn i j u v
-round-meeting c = record { a = c .a; d = c .d; from = c .arrival .from; upto = c .departure .upto; out = c .arrival .there; back = c .departure .there; in-time = c .in-time }
+round-meeting c = record {
+  a = c .a;
+  d = c .d;
+  from = c .arrival .from;
+  upto = c .departure .upto;
+  out = c .arrival .there;
+  back = c .departure .there;
+  in-time = c .in-time;
+}
 
 -- and where there are any, there is an earliest arrival and a latest departure
 pub meeting-round : (r : List (List ℕ)) (n : ℕ) (L : Limit) (turn : ℕ) → JourneysDecided r n L → (i j u v : ℕ) → 1 ≤ i → j ≤ length r

@@ -150,13 +150,13 @@ crosses-span r L j (suc k) i u v ts e s m =
     )
 
 -- a walk in pick i, put before a journey that goes on later
-record Led (r : List (List ℕ)) (j i u v c : ℕ) (ts : List ℕ) : Type 0 where
+record LedOn (r : List (List ℕ)) (j i u v c : ℕ) (ts : List ℕ) : Type 0 where
   all : List ℕ
   way : Crosses r j i u v all
   here : count i all ≡ c + count i ts
   there : (t : ℕ) → t ≢ i → count t all ≡ count t ts
 
-lead : {r : List (List ℕ)} {j i c u w v : ℕ} {ts : List ℕ} → i ≤ j → Walk (pickAt r i) c u w → Crosses r j i w v ts → Led r j i u v c ts
+lead : {r : List (List ℕ)} {j i c u w v : ℕ} {ts : List ℕ} → i ≤ j → Walk (pickAt r i) c u w → Crosses r j i w v ts → LedOn r j i u v c ts
 lead {ts = ts} h stop s = record { all = ts; way = s; here = omega arith; there = λ t ne. refl }
 lead {i = i} {ts = ts} h (step l k) s =
     let q = lead h k s in

@@ -10,6 +10,10 @@ pub data Limit : Type 0 where
   unlimited : Limit
   atMost : ℕ → Limit
 
+-- 32 boards need no more links in one pick: at most so many are no limit (`proofs/Hops`, `no-limit`)
+abbrev pub mostLinks : ℕ
+mostLinks = 31
+
 -- c links in one pick are within the limit
 abbrev pub Within : Limit → ℕ → Type 0
 Within unlimited c = Unit {0}

@@ -4,6 +4,7 @@ use mathlib.Core.Logic.{_≢_, _↔_}
 use mathlib.Core.List.{List}
 use Prim.Native.Nat.{ℕ, _+_, _≤_, _<_}
 use lib.Dec.{T}
+use lib.ListN.{length}
 use Rattle.model.specs.Recording.{link}
 use Rattle.model.specs.Journey.{Limit, Open, Journey, Arrival, Departure}
 
@@ -35,6 +36,10 @@ SomeLink r i j u v = (t : ℕ) × (i ≤ t) × (t ≤ j) × Open r t u v
 -- the union equals the footprint (01: the link list)
 abbrev pub PassesFootprint : List (List ℕ) → List ℕ → ℕ → ℕ → Type 0
 PassesFootprint r footprint i j = (u v : ℕ) → SomeLink r i j u v ↔ T (link footprint u v)
+
+-- no pick has a link outside the footprint
+abbrev pub Listed : List (List ℕ) → List ℕ → Type 0
+Listed r footprint = (t u v : ℕ) → 1 ≤ t → t ≤ length r → Open r t u v → T (link footprint u v)
 
 -- ---- measure 3, temporal diameter (01: reach)
 

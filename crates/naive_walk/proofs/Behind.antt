@@ -3,13 +3,13 @@ use Prim.Native.Nat.{_+_, _*_, _≤_}
 use mathlib.Core.Bool.{Bool, true, false}
 use native.Mathlib.Omega.{arith}
 use Rattle.naive_walk.specs.declared.Numbers.{Numbers}
-use Rattle.naive_walk.specs.Kept.{one, Kept, Within}
+use Rattle.naive_walk.specs.Ranges.{mostPerPick, one, BehindPick, InPick}
 
 one-most : (p : Bool) → one p ≤ 1
 one-most true = omega arith
 one-most false = omega arith
 
-pub behind : (x : Numbers) → Within x → x .compositions ≤ 4096 + 17000000 * x .m → x .tests ≤ 4096 * x .m → Kept x
+pub behind : (x : Numbers) → InPick x → x .compositions ≤ 4096 + mostPerPick * x .m → x .tests ≤ 4096 * x .m → BehindPick x
 behind x w c t = record {
   start = w .start;
   failed = omega (arith, one-most (x .failed));

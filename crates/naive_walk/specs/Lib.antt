@@ -1,2 +1,2 @@
 -- Definitions that the contracts of `naive_walk` cite.
-pub mod Kept
+pub mod Ranges

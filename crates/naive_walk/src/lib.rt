@@ -1,8 +1,8 @@
 // The counts by the second implementation: the walk of 01 on numbers and marks alone, sentence by sentence, with no table and no area. It shares no code
 // with the walk of the calls. A recording is `picks` picks of n words each; a test is answered by `naive` over the bare window.
 ghost use mathlib.Core.Path.{_≡_};
-ghost use Prim.Native.Nat.{_+_, _≤_, _<_};
-ghost use Rattle.naive_walk.specs.Kept.{one, Kept, Within, Spends};
+ghost use Prim.Native.Nat.{_+_, _*_, _≤_, _<_};
+ghost use Rattle.naive_walk.specs.Ranges.{mostPerRise, mostPerPick, mostSpent, one, BehindPick, InPick, Spends};
 
 // "picks taken m, window start s (first 1), boundary b (first 0), whether any test has failed (first no), whether the last test passed (first no) and the
 // two counts". Picks are numbered from 1.
@@ -19,7 +19,7 @@ pub struct Numbers {
 // Before pick 1, with the compositions that were spent before it.
 pub fn first(spent: usize) -> Numbers
     requires { ⌜ spent ≤ 4096 ⌝ }
-    ensures { λ r. ⌜ Kept r × (r .m ≡ 0) ⌝ }
+    ensures { λ r. ⌜ BehindPick r × (r .m ≡ 0) ⌝ }
 {
     Numbers {
         m: 0,
@@ -36,7 +36,7 @@ pub fn first(spent: usize) -> Numbers
 
 // "b becomes m and the left chain is built over s to m, costing m - s."
 fn rebuilt(x: Numbers) -> Numbers
-    requires { ⌜ Within x ⌝ }
+    requires { ⌜ InPick x ⌝ }
     ensures { λ r. ⌜ Spends 0 4096 0 x r ⌝ }
 {
     Numbers {
@@ -47,8 +47,8 @@ fn rebuilt(x: Numbers) -> Numbers
 }
 
 // "Otherwise a new pick joins the right chain, costing 1 if that was not empty." Before pick m that was the picks b + 1 to m - 1.
-fn joined(x: Numbers) -> Numbers
-    requires { ⌜ Within x ⌝ }
+fn lengthened(x: Numbers) -> Numbers
+    requires { ⌜ InPick x ⌝ }
     ensures { λ r. ⌜ Spends 0 4096 0 x r ⌝ }
 {
     if x.b + 1 < x.m {
@@ -62,13 +62,13 @@ fn joined(x: Numbers) -> Numbers
 
 // "When s exceeds b + 1, .. Otherwise a new pick joins .."
 fn extended(x: Numbers) -> Numbers
-    requires { ⌜ Within x ⌝ }
+    requires { ⌜ InPick x ⌝ }
     ensures { λ r. ⌜ Spends 0 4096 0 x r ⌝ }
 {
     if x.b + 1 < x.s {
         return rebuilt(x);
     }
-    joined(x)
+    lengthened(x)
 }
 
 // What s rises by.
@@ -80,8 +80,8 @@ fn one_if(yes: bool) -> usize
 
 // A new pick: m is one more, "s rises by one .., else stays", and the ladders take the pick in.
 fn entered(x: Numbers, rises: bool) -> Numbers
-    requires { ⌜ Kept x × ((x .m < 4096) × (x .s + one rises ≤ x .m + 1)) ⌝ }
-    ensures { λ r. ⌜ Within r × ((r .m ≡ x .m + 1) × ((r .compositions ≤ x .compositions + 4096) × (r .tests ≤ x .tests))) ⌝ }
+    requires { ⌜ BehindPick x × ((x .m < 4096) × (x .s + one rises ≤ x .m + 1)) ⌝ }
+    ensures { λ r. ⌜ InPick r × ((r .m ≡ x .m + 1) × ((r .compositions ≤ x .compositions + 4096) × (r .tests ≤ x .tests))) ⌝ }
 {
     extended(Numbers {
         m: x.m + 1,
@@ -104,7 +104,7 @@ fn window_cost(x: Numbers) -> usize
 
 // One test of the window s to m.
 fn tested(words: &[u32], n: usize, picks: usize, measure: usize, x: Numbers) -> Numbers
-    requires { ⌜ (n ≤ 32) × ((picks ≤ 4096) × Within x) ⌝ }
+    requires { ⌜ (n ≤ 32) × ((picks ≤ 4096) × InPick x) ⌝ }
     ensures { λ r. ⌜ Spends 0 1 1 x r ⌝ }
 {
     let passed = naive::passes(words, n, picks, measure, x.s - 1, x.m);
@@ -121,8 +121,8 @@ fn tested(words: &[u32], n: usize, picks: usize, measure: usize, x: Numbers) -> 
 
 // "At a new pick, s rises by one if the last test passed, else stays. One test follows."
 fn smallest_step(words: &[u32], n: usize, picks: usize, measure: usize, x: Numbers) -> Numbers
-    requires { ⌜ (n ≤ 32) × ((picks ≤ 4096) × (Kept x × (x .m < 4096))) ⌝ }
-    ensures { λ r. ⌜ Kept r × (r .m ≡ x .m + 1) ⌝ }
+    requires { ⌜ (n ≤ 32) × ((picks ≤ 4096) × (BehindPick x × (x .m < 4096))) ⌝ }
+    ensures { λ r. ⌜ BehindPick r × (r .m ≡ x .m + 1) ⌝ }
 {
     tested(words, n, picks, measure, entered(x, x.passed))
 }
@@ -131,7 +131,7 @@ fn smallest_step(words: &[u32], n: usize, picks: usize, measure: usize, x: Numbe
 
 // "After a failure s rises by one", and where it then exceeds b + 1 the left ladder is built. No pick joins.
 fn raised(x: Numbers) -> Numbers
-    requires { ⌜ Within x × (x .s < x .m) ⌝ }
+    requires { ⌜ InPick x × (x .s < x .m) ⌝ }
     ensures { λ r. ⌜ Spends 1 4096 0 x r ⌝ }
 {
     let y = Numbers { s: x.s + 1, ..x };
@@ -143,16 +143,16 @@ fn raised(x: Numbers) -> Numbers
 
 // ".. and the test is repeated, .."
 fn repeated(words: &[u32], n: usize, picks: usize, measure: usize, x: Numbers) -> Numbers
-    requires { ⌜ (n ≤ 32) × ((picks ≤ 4096) × (Within x × ((x .s < x .m) × (x .compositions ≤ 99000000000)))) ⌝ }
-    ensures { λ r. ⌜ Spends 1 4097 1 x r ⌝ }
+    requires { ⌜ (n ≤ 32) × ((picks ≤ 4096) × (InPick x × ((x .s < x .m) × (x .compositions + mostPerRise ≤ mostSpent)))) ⌝ }
+    ensures { λ r. ⌜ Spends 1 mostPerRise 1 x r ⌝ }
 {
     tested(words, n, picks, measure, raised(x))
 }
 
 // ".., until one passes or the window s = m fails."
 fn climbed(words: &[u32], n: usize, picks: usize, measure: usize, x: Numbers) -> Numbers
-    requires { ⌜ (n ≤ 32) × ((picks ≤ 4096) × (Within x × ((x .compositions ≤ 90000000000) × (x .tests ≤ 90000000000)))) ⌝ }
-    ensures { λ r. ⌜ Within r × ((r .m ≡ x .m) × ((r .compositions ≤ x .compositions + 16900000) × (r .tests ≤ x .tests + 4095))) ⌝ }
+    requires { ⌜ (n ≤ 32) × ((picks ≤ 4096) × (InPick x × ((x .compositions + mostPerPick ≤ mostSpent) × (x .tests + 4096 ≤ mostSpent)))) ⌝ }
+    ensures { λ r. ⌜ InPick r × ((r .m ≡ x .m) × ((r .compositions ≤ x .compositions + 4095 * mostPerRise) × (r .tests ≤ x .tests + 4095))) ⌝ }
 {
     let mut y = x;
     while !y.passed && y.s < y.m {
@@ -169,8 +169,8 @@ fn is_over(x: Numbers) -> bool {
 // "At a new pick s stays while no test has failed yet, else rises by one. Test; .." Once it is none for good, "later picks .. raise m only, write nothing
 // and cost nothing".
 fn largest_step(words: &[u32], n: usize, picks: usize, measure: usize, x: Numbers) -> Numbers
-    requires { ⌜ (n ≤ 32) × ((picks ≤ 4096) × (Kept x × (x .m < 4096))) ⌝ }
-    ensures { λ r. ⌜ Kept r × (r .m ≡ x .m + 1) ⌝ }
+    requires { ⌜ (n ≤ 32) × ((picks ≤ 4096) × (BehindPick x × (x .m < 4096))) ⌝ }
+    ensures { λ r. ⌜ BehindPick r × (r .m ≡ x .m + 1) ⌝ }
 {
     if is_over(x) {
         return Numbers { m: x.m + 1, ..x };
@@ -183,8 +183,8 @@ fn largest_step(words: &[u32], n: usize, picks: usize, measure: usize, x: Number
 
 // One pick more.
 pub fn step(words: &[u32], n: usize, picks: usize, measure: usize, x: Numbers) -> Numbers
-    requires { ⌜ (n ≤ 32) × ((picks ≤ 4096) × (Kept x × (x .m < 4096))) ⌝ }
-    ensures { λ r. ⌜ Kept r × (r .m ≡ x .m + 1) ⌝ }
+    requires { ⌜ (n ≤ 32) × ((picks ≤ 4096) × (BehindPick x × (x .m < 4096))) ⌝ }
+    ensures { λ r. ⌜ BehindPick r × (r .m ≡ x .m + 1) ⌝ }
 {
     if measure == 1 {
         return largest_step(words, n, picks, measure, x);
@@ -206,7 +206,7 @@ fn list_cost(picks: usize, measure: usize) -> usize
 // Behind the last pick of a recording that is lent whole.
 pub fn whole(words: &[u32], n: usize, picks: usize, measure: usize) -> Numbers
     requires { ⌜ (n ≤ 32) × ((1 ≤ picks) × (picks ≤ 4096)) ⌝ }
-    ensures { λ r. ⌜ Kept r ⌝ }
+    ensures { λ r. ⌜ BehindPick r ⌝ }
 {
     let mut x = first(list_cost(picks, measure));
     for k in 0..picks {
@@ -217,7 +217,7 @@ pub fn whole(words: &[u32], n: usize, picks: usize, measure: usize) -> Numbers
 
 // "Passed: the length is m - s + 1. Failed with s above 1: the length is m - s + 2", but under measure 1. Else there is none, 0.
 pub fn length(measure: usize, x: Numbers) -> usize
-    requires { ⌜ Kept x ⌝ }
+    requires { ⌜ BehindPick x ⌝ }
 {
     if x.passed {
         return x.m + 1 - x.s;

@@ -21,7 +21,7 @@ use Rattle.verdicts.specs.Fit.{Runs}
 use Rattle.verdicts.proofs.Verdicts.{open-sound, pick-sound, whole-sound}
 use Rattle.steps.specs.Walk.{State, reported}
 use Rattle.steps.proofs.Ready.{Stepped, stepped-grown, sound-ready}
-use Rattle.steps.proofs.Frames.{cond-ind}
+use Rattle.model.proofs.Logic.{cond-ind}
 use Rattle.calls.specs.Answers.{Handed, handed, outcome, answerBy}
 use Rattle.calls.specs.Calls.{openSays, pickSays, pickLeaves, reportSays, lengthSays, unions, wholeStart, wholeAfter, wholeReport, wholeSays}
 use Rattle.calls.specs.Fit.{Starts}

@@ -75,7 +75,7 @@ pub extern "C" fn nookmallow_pick(p: PlaceWords, area: &mut [u32], words: &[u32]
     }
 }
 
-fn length_of(p: PlaceWords) -> AnswerWords
+fn length_words(p: PlaceWords) -> AnswerWords
     ensures { λ r. ⌜ r ≡ answerWords (lengthAnswers p) ⌝ }
 {
     if !crossing::are_flags(p) {
@@ -96,7 +96,7 @@ fn length_of(p: PlaceWords) -> AnswerWords
 pub extern "C" fn nookmallow_length(p: PlaceWords) -> MeasuredWords
     ensures { λ r. ⌜ r ≡ measuredWords (lengthAnswers p) p ⌝ }
 {
-    let a = length_of(p);
+    let a = length_words(p);
     MeasuredWords {
         refusal: a.refusal,
         length: a.length,

@@ -12,8 +12,8 @@ use Rattle.place.specs.Places.{fresh, nowhere, inRange, soundWindow, sou
 
 -- ---- tests in a row
 
-pub and-both : {a b : Bool} → a ≡ true → b ≡ true → (a && b) ≡ true
-and-both e g = rw (e, g)
+pub and-true : {a b : Bool} → a ≡ true → b ≡ true → (a && b) ≡ true
+and-true e g = rw (e, g)
 
 pub and-left : (a b : Bool) → (a && b) ≡ true → a ≡ true
 and-left true b e = refl
@@ -129,27 +129,27 @@ sound-says p e =
 
 between-in : (low x high : ℕ) → low ≤ x → x ≤ high → between low x high ≡ true
 unfolding between
-between-in low x high h k = and-both (le-leb _ _ h) (le-leb _ _ k)
+between-in low x high h k = and-true (le-leb _ _ h) (le-leb _ _ k)
 
 range-in : (p : Place) → Sound p → inRange p ≡ true
 unfolding inRange
 range-in p h =
-    and-both (between-in _ _ _ (h .boards-low) (h .boards-high))
-    (and-both (between-in _ _ _ (h .measure-low) (h .measure-high)) (between-in _ _ _ (h .limit-low) (h .limit-high)))
+    and-true (between-in _ _ _ (h .boards-low) (h .boards-high))
+    (and-true (between-in _ _ _ (h .measure-low) (h .measure-high)) (between-in _ _ _ (h .limit-low) (h .limit-high)))
 
 window-in : (p : Place) → Sound p → soundWindow p ≡ true
 unfolding soundWindow
 window-in p h =
-    and-both (le-leb _ _ (h .taken-high))
-    (and-both (le-leb _ _ (h .boundary-high)) (between-in _ _ _ (h .start-low) (h .start-high)))
+    and-true (le-leb _ _ (h .taken-high))
+    (and-true (le-leb _ _ (h .boundary-high)) (between-in _ _ _ (h .start-low) (h .start-high)))
 
 -- where the first does not hold the second does
-or-in : (a b : Bool) → (a ≡ false → b ≡ true) → (a || b) ≡ true
-or-in true b f = refl
-or-in false b f = f refl
+or-else : (a b : Bool) → (a ≡ false → b ≡ true) → (a || b) ≡ true
+or-else true b f = refl
+or-else false b f = f refl
 
-not-in : {x : Bool} → x ≡ false → not x ≡ true
-not-in e = rw e
+not-of-false : {x : Bool} → x ≡ false → not x ≡ true
+not-of-false e = rw e
 
 some-taken : (m : ℕ) → eqb m 0 ≡ false → 1 ≤ m
 some-taken zero f = absurd (subst T f tt)
@@ -162,21 +162,21 @@ none-taken m f =
 
 start-in : (p : Place) → Sound p → soundStart p ≡ true
 unfolding soundStart
-start-in p h = or-in (eqb (p .window .taken .0) 0) _ (λ f. le-leb _ _ (h .start-taken (some-taken (p .window .taken .0) f)))
+start-in p h = or-else (eqb (p .window .taken .0) 0) _ (λ f. le-leb _ _ (h .start-taken (some-taken (p .window .taken .0) f)))
 
 marks-in : (p : Place) → Sound p → soundMarks p ≡ true
 unfolding soundMarks
 marks-in p h =
-    or-in (leb 1 (p .window .taken .0)) _
-    (λ f. and-both (not-in (h .none-failed (none-taken (p .window .taken .0) f))) (not-in (h .none-passed (none-taken (p .window .taken .0) f))))
+    or-else (leb 1 (p .window .taken .0)) _
+    (λ f. and-true (not-of-false (h .none-failed (none-taken (p .window .taken .0) f))) (not-of-false (h .none-passed (none-taken (p .window .taken .0) f))))
 
 counts-in : (p : Place) → Sound p → soundCounts p ≡ true
 unfolding soundCounts
-counts-in p h = and-both (le-leb _ _ (h .compositions-high)) (le-leb _ _ (h .tests-high))
+counts-in p h = and-true (le-leb _ _ (h .compositions-high)) (le-leb _ _ (h .tests-high))
 
 pub sound-in : (p : Place) → Sound p → soundPlace p ≡ true
 unfolding soundPlace
-sound-in p h = and-both (range-in p h) (and-both (window-in p h) (and-both (start-in p h) (and-both (marks-in p h) (counts-in p h))))
+sound-in p h = and-true (range-in p h) (and-true (window-in p h) (and-true (start-in p h) (and-true (marks-in p h) (counts-in p h))))
 
 -- ---- the places that an opening hands back
 

@@ -1,7 +1,7 @@
 // The place of a walk: the record that every call is handed and hands back, the steps it takes, and cause 16.
 ghost use mathlib.Core.Path.{_≡_};
 ghost use Prim.Native.Nat.{_≤_};
-ghost use Rattle.place.specs.Places.{fresh, mostCounted, picksTaken, startMoved, boundaryMoved, charged, marked, tested, inRange, soundWindow, soundStart, soundMarks, soundCounts, soundPlace};
+ghost use Rattle.place.specs.Places.{fresh, mostCounted, picksTaken, startMoved, boundaryMoved, charged, tested, inRange, soundWindow, soundStart, soundMarks, soundCounts, soundPlace};
 use model::Compositions;
 use model::Pick;
 use model::Tests;
@@ -70,17 +70,6 @@ impl TestMarks {
         failed: false,
         passed: false,
     };
-
-    // The marks after one test more.
-    fn with(mut self, passed: bool) -> TestMarks
-        ensures { λ r. ⌜ r ≡ marked self passed ⌝ }
-    {
-        self.passed = passed;
-        if !passed {
-            self.failed = true;
-        }
-        self
-    }
 }
 
 impl Counts {
@@ -171,10 +160,8 @@ impl Place {
         ensures { λ r. ⌜ r ≡ fresh measure n limit ⌝ }
     {
         let mut p = Place::of_measure(measure);
-        let mut s = p.settings;
-        s.boards = n;
-        s.limit = limit;
-        p.settings = s;
+        p.settings.boards = n;
+        p.settings.limit = limit;
         p
     }
 
@@ -220,10 +207,13 @@ impl Place {
         requires { ⌜ (self .counts .compositions .0 ≤ mostCounted) × (k ≤ 4096) ⌝ }
         ensures { λ r. ⌜ r ≡ charged self k ⌝ }
     {
-        let mut counts = self.counts;
-        let c = counts.compositions;
+        let c = self.counts.compositions;
+        let t = self.counts.tests;
         let more = Compositions(c.0 + k);
-        counts.compositions = more;
+        let counts = Counts {
+            compositions: more,
+            tests: t,
+        };
         self.counts = counts;
         self
     }
@@ -233,13 +223,18 @@ impl Place {
         requires { ⌜ self .counts .tests .0 ≤ mostCounted ⌝ }
         ensures { λ r. ⌜ r ≡ tested self passed ⌝ }
     {
-        let mut counts = self.counts;
-        let t = counts.tests;
+        let c = self.counts.compositions;
+        let t = self.counts.tests;
         let more = Tests(t.0 + 1);
-        counts.tests = more;
+        let counts = Counts {
+            compositions: c,
+            tests: more,
+        };
         self.counts = counts;
-        let marks = self.marks.with(passed);
-        self.marks = marks;
+        self.marks.passed = passed;
+        if !passed {
+            self.marks.failed = true;
+        }
         self
     }
 

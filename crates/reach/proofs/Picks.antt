@@ -8,12 +8,13 @@ use native.Mathlib.Omega.{arith}
 use lib.Dec.{T}
 use lib.ListN.{length, take}
 use lib.Seq.{length-take-le}
-use Rattle.model.proofs.Causes.{none-holds}
+use Rattle.model.proofs.Causes.{none-holds, between-says, in-range, holds-by, not-of-true}
 use Rattle.links.specs.Tables.{compose, within}
 use Rattle.links.specs.Composed.{composedFrom, composed, reach}
-use Rattle.checks.specs.Lent.{lentPick, lentPicks, cleanPicks}
+use Rattle.links.specs.Picks.{lentPick}
+use Rattle.checks.specs.Lent.{lentPicks, cleanPicks}
 use Rattle.checks.proofs.Lent.{length-lent}
-use Rattle.verdicts.proofs.Verdicts.{between-says, holds-by, true-of, not-short, passes, in-range, long-enough, lent-sound, lent-none}
+use Rattle.verdicts.proofs.Verdicts.{true-of, not-short, long-enough, lent-sound, lent-none}
 use Rattle.reach.specs.Tables.{tableCauses, tableVerdict}
 
 from-snoc : (n h i : ℕ) (t : List ℕ) (ps : List (List ℕ)) (p : List ℕ)
@@ -75,7 +76,7 @@ tables-verdict n w out o =
             l .1 .1 .0,
             (
               long-enough (length out) n (o .room),
-              (passes (cleanPicks n w (length w / n)) (o .clean), tt),
+              (not-of-true (cleanPicks n w (length w / n)) (o .clean), tt),
             ),
           ),
         ),
@@ -83,13 +84,13 @@ tables-verdict n w out o =
     )
 
 -- one turn of the loop
-pub reach-turn : (n k : ℕ) (w out out′ p : List ℕ) → 1 ≤ k → out ≡ reach n 31 (lentPicks n w k) → p ≡ lentPick n w k
-    → out′ ≡ compose n out (within n 31 p) → out′ ≡ reach n 31 (lentPicks n w (k + 1))
+pub reach-turn : (n h k : ℕ) (w out out′ p : List ℕ) → 1 ≤ k → out ≡ reach n h (lentPicks n w k) → p ≡ lentPick n w k
+    → out′ ≡ compose n out (within n h p) → out′ ≡ reach n h (lentPicks n w (k + 1))
 unfolding lentPicks
-reach-turn n k w out out′ p l a b c =
-    c ∙ ap₂ (λ (x y : List ℕ). compose n x (within n 31 y)) a b
-    ∙ sym (reach-snoc n 31 (lentPicks n w k) (lentPick n w k) (omega (arith, length-lent n w k)))
-    ∙ ap (λ (i : ℕ). reach n 31 (lentPicks n w i)) (sym (add-one k))
+reach-turn n h k w out out′ p l a b c =
+    c ∙ ap₂ (λ (x y : List ℕ). compose n x (within n h y)) a b
+    ∙ sym (reach-snoc n h (lentPicks n w k) (lentPick n w k) (omega (arith, length-lent n w k)))
+    ∙ ap (λ (i : ℕ). reach n h (lentPicks n w i)) (sym (add-one k))
 
 -- the first n words as code lends them
 pub front-long : (n : ℕ) (out : List ℕ) → n ≤ length out → n ≡ length (take (n - 0) out)

@@ -8,6 +8,7 @@ use Rattle.model.specs.Causes.{between, Causes, firstOf}
 use Rattle.model.specs.Refusals.{number}
 use Rattle.links.specs.Composed.{reach}
 use Rattle.checks.specs.Lent.{lentPicks, cleanPicks}
+use Rattle.measures.specs.Kit.{hops01}
 use Rattle.verdicts.specs.Verdicts.{lentCauses}
 use Rattle.reach.specs.declared.Tabled.{Tabled}
 use Rattle.reach.specs.declared.Tabled.the-variants.{Written, Refused}
@@ -28,9 +29,9 @@ tableCauses n w out = (not (between 2 n 32), 1) ∷ (lentCauses n w ++ outCauses
 unfoldable pub tableVerdict : ℕ → List ℕ → List ℕ → ℕ
 tableVerdict n w out = firstOf (tableCauses n w out)
 
--- the table of the picks lent; with at most 32 boards 31 links in one pick are no limit
+-- the table of the picks lent, with document 01's links in one pick
 unfoldable pub tableOf : ℕ → List ℕ → List ℕ
-tableOf n w = reach n 31 (lentPicks n w (length w / n))
+tableOf n w = reach n hops01 (lentPicks n w (length w / n))
 
 -- the first n words are the table, and the others stay
 unfoldable pub tableLeaves : ℕ → List ℕ → List ℕ → List ℕ

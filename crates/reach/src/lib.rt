@@ -5,6 +5,7 @@ ghost use lib.ListN.{length};
 ghost use Rattle.links.specs.Tables.{compose, within};
 ghost use Rattle.links.specs.Composed.{reach};
 ghost use Rattle.checks.specs.Lent.{lentPicks};
+ghost use Rattle.measures.specs.Kit.{hops01};
 ghost use Rattle.verdicts.specs.Verdicts.{verdictSays};
 ghost use Rattle.model.specs.Causes.{firstOf};
 ghost use Rattle.reach.specs.Tables.{tableSays, outCauses, tableVerdict, tableLeaves};
@@ -20,7 +21,7 @@ pub enum Tabled {
 // The table takes in one pick more: the pick's own table is composed onto it.
 fn add_pick(out: &mut [u32], pick: &[u32], n: usize)
     requires { ⌜ (n ≤ 32) × ((n ≡ length (now out)) × (n ≡ length (now pick))) ⌝ }
-    ensures { λ _. ⌜ now (out .exit) ≡ compose n (now (out .entry)) (within n 31 (now (pick .entry))) ⌝ }
+    ensures { λ _. ⌜ now (out .exit) ≡ compose n (now (out .entry)) (within n hops01 (now (pick .entry))) ⌝ }
 {
     let own = joins::closed_words(pick, n);
     joins::join_over(out, &own[0..n], n);
@@ -29,7 +30,7 @@ fn add_pick(out: &mut [u32], pick: &[u32], n: usize)
 // The table of m picks, from the first one on.
 fn write_table(out: &mut [u32], words: &[u32], n: usize, m: usize)
     requires { ⌜ (n ≤ 32) × ((n ≡ length (now out)) × ((1 ≤ m) × ((m ≤ 4096) × (m * n ≤ length (now words))))) ⌝ }
-    ensures { λ _. ⌜ now (out .exit) ≡ reach n 31 (lentPicks n (now (words .entry)) m) ⌝ }
+    ensures { λ _. ⌜ now (out .exit) ≡ reach n hops01 (lentPicks n (now (words .entry)) m) ⌝ }
 {
     joins::close_over(out, &words[0..n], n);
     for k in 1..m {
@@ -49,7 +50,7 @@ fn out_verdict(n: usize, words: &[u32], m: usize, out: &[u32]) -> Verdict
     if !checks::are_clean(words, n, m) {
         return Verdict::Refuse(Refusal::Forbidden);
     }
-    Verdict::Sound
+    Verdict::Clear
 }
 
 // The causes, in their order: 1, 10, 8, 3, 4, 5.
@@ -60,7 +61,7 @@ fn table_verdict(n: usize, words: &[u32], out: &[u32]) -> Verdict
         return Verdict::Refuse(Refusal::Boards);
     }
     match verdicts::lent_verdict(words, n) {
-        Verdict::Sound => out_verdict(n, words, words.len() / n, out),
+        Verdict::Clear => out_verdict(n, words, words.len() / n, out),
         Verdict::Refuse(c) => Verdict::Refuse(c),
     }
 }
@@ -70,7 +71,7 @@ pub fn table(n: usize, words: &[u32], out: &mut [u32]) -> Tabled
     ensures { λ r. ⌜ (tableSays r ≡ tableVerdict n (now (words .entry)) (now (out .entry))) × (now (out .exit) ≡ tableLeaves n (now (words .entry)) (now (out .entry))) ⌝ }
 {
     match table_verdict(n, words, out) {
-        Verdict::Sound => {
+        Verdict::Clear => {
             let m = words.len() / n;
             write_table(&mut out[0..n], words, n, m);
             Tabled::Written

@@ -12,7 +12,7 @@ use Rattle.commands.specs.declared.Command.the-variants.{Boards, Later, Not}
 use Rattle.commands.specs.declared.Item.the-variants.{Link, Pick, End}
 use Rattle.commands.specs.Commands.{commandOf, spelledAt}
 use Rattle.commands.specs.Causes.{boardsCauses, laterCauses, headAt, next}
-use Rattle.recording.specs.Format.{Content, ended, refused, follow, commands, opened, recordingAt, alone, readFile}
+use Rattle.recording.specs.Format.{Content, ended, refused, follow, commands, afterHead, recordingAt, alone, readFile}
 use Rattle.recording.specs.Answers.{fileSays}
 
 -- 01's line of numbers, and 0
@@ -79,14 +79,14 @@ caused-commands bytes n limit (suc turns) at picks links =
     caused-follow (commands bytes n limit turns) (caused-commands bytes n limit turns) n at picks links (next bytes n limit at (length picks) links)
     (told-next bytes n limit at (length picks) links)
 
-caused-opened : (limit : ℕ) (bytes : List ℕ) (start : ℕ) (c : Command) → Told c → Caused (opened limit bytes start c)
-caused-opened limit bytes start (Boards n) h = caused-commands bytes n limit (length bytes) (start + 2) [] (zeros n)
-caused-opened limit bytes start (Later i) h = tt
-caused-opened limit bytes start (Not r) h = h
+caused-after-head : (limit : ℕ) (bytes : List ℕ) (start : ℕ) (c : Command) → Told c → Caused (afterHead limit bytes start c)
+caused-after-head limit bytes start (Boards n) h = caused-commands bytes n limit (length bytes) (start + 2) [] (zeros n)
+caused-after-head limit bytes start (Later i) h = tt
+caused-after-head limit bytes start (Not r) h = h
 
 caused-at : (limit room : ℕ) (bytes : List ℕ) (start : ℕ) → Caused (recordingAt limit room bytes start)
 unfolding recordingAt
-caused-at limit room bytes start = caused-opened limit bytes start (headAt limit room bytes start) (told-head limit room bytes start)
+caused-at limit room bytes start = caused-after-head limit bytes start (headAt limit room bytes start) (told-head limit room bytes start)
 
 caused-alone : (bytes : List ℕ) (o : Content) → Caused o → Caused (alone bytes o)
 caused-alone bytes (ended n picks end) h = each-refused refused Caused _ _ (tt, tt) tt

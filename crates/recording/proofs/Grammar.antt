@@ -12,14 +12,14 @@ use Rattle.model.specs.Recording.{link}
 use Rattle.model.specs.Causes.{firstOr}
 use Rattle.model.proofs.Logic.{tr}
 use Rattle.lists.specs.Tab.{zeros}
-use Rattle.checks.specs.Lent.{lentPick}
+use Rattle.links.specs.Picks.{lentPick}
 use Rattle.commands.proofs.Admit.{no}
 use Rattle.recording.specs.Format.{Content, ended, refused, commands, recordingAt, readFile}
 use Rattle.recording.specs.Answers.{read, fileSays, readSays}
 use Rattle.recording.specs.Grammar.{Act, sets, pick, spell, spellAll, spellFile, isOpen, befores, Follow, Reads, AsWritten}
-use Rattle.recording.proofs.Sound.{found}
+use Rattle.recording.proofs.Sound.{ended-reading}
 use Rattle.recording.proofs.Laws.{number-positive, is-alone, pick-law}
-use Rattle.recording.proofs.Turn.{More, after, taking, act-turn, end-turn, head-turn, Turned, at-act, at-end, turned, head-back}
+use Rattle.recording.proofs.Turn.{More, linksAfter, picksAfter, act-turn, end-turn, head-turn, TurnTold, at-act, at-end, turn-told, head-back}
 use Rattle.recording.proofs.State.{Now, now-start, now-on, may-follow, follow-may, as-many}
 
 -- ---- what is read is spelled
@@ -37,18 +37,18 @@ module _ (bytes : List ℕ) (n limit m : ℕ) (ps : List (List ℕ)) (end : ℕ)
   Spelled more = (at : ℕ) (picks : List (List ℕ)) (links : List ℕ) (earlier : List Act) → Now n limit earlier picks links
       → more at picks links ≡ ended m ps end → Rest bytes n limit at (length picks) earlier
 
-  step : (more : More) → Spelled more → (at : ℕ) (picks : List (List ℕ)) (links : List ℕ) (earlier : List Act)
-      → Now n limit earlier picks links → Turned bytes n limit at picks links more (ended m ps end) → Rest bytes n limit at (length picks) earlier
+  spell-step : (more : More) → Spelled more → (at : ℕ) (picks : List (List ℕ)) (links : List ℕ) (earlier : List Act)
+      → Now n limit earlier picks links → TurnTold bytes n limit at picks links more (ended m ps end) → Rest bytes n limit at (length picks) earlier
   unfolding spellAll
-  step more ih at picks links earlier s (at-act x d a q) =
-      let r = ih (at + length (spell x)) (taking picks links x) (after links x) (x ∷ earlier) (now-on s x a) q in
+  spell-step more ih at picks links earlier s (at-act x d a q) =
+      let r = ih (at + length (spell x)) (picksAfter picks links x) (linksAfter links x) (x ∷ earlier) (now-on s x a) q in
       record {
         acts = x ∷ r .acts;
         spelled = d ∙ ap (λ (l : List ℕ). spell x ++ l) (r .spelled);
         follow = may-follow s x (r .acts) a (r .follow);
         few = rw (sym (as-many picks links earlier x (r .acts))) (r .few);
       }
-  step more ih at picks links earlier s (at-end d q) =
+  spell-step more ih at picks links earlier s (at-end d q) =
       let e : at + 1 ≡ end = cc in
       record {
         acts = [];
@@ -61,8 +61,8 @@ module _ (bytes : List ℕ) (n limit m : ℕ) (ps : List (List ℕ)) (end : ℕ)
   unfolding commands
   spelled-from zero at picks links earlier s q = absurd (no cc)
   spelled-from (suc turns) at picks links earlier s q =
-      step (commands bytes n limit turns) (spelled-from turns) at picks links earlier s
-      (turned bytes n limit at picks links (commands bytes n limit turns) m ps end q)
+      spell-step (commands bytes n limit turns) (spelled-from turns) at picks links earlier s
+      (turn-told bytes n limit at picks links (commands bytes n limit turns) m ps end q)
 
 -- ---- what is spelled is read
 
@@ -80,7 +80,7 @@ as-more {bs} {ps} {b} {p} h a = record { many = ap suc (a .many); each = by }
     by (suc k) l = a .each k (le-of-suc-le-suc l)
 
 -- the reading, with the picks that are to come
-record Ends (bytes : List ℕ) (n : ℕ) (picks : List (List ℕ)) (befores : List (List Act)) (o : Content) : Type 0 where
+record EndsAsTold (bytes : List ℕ) (n : ℕ) (picks : List (List ℕ)) (befores : List (List Act)) (o : Content) : Type 0 where
   come : List (List ℕ)
   as-told : As befores come
   ends : o ≡ ended n (picks ++ come) (length bytes)
@@ -89,11 +89,11 @@ module _ (bytes : List ℕ) (n limit : ℕ) where
   abbrev all : List (List ℕ) → Content
   all picks = ended n picks (length bytes)
 
-  gathered : {earlier : List Act} {picks : List (List ℕ)} {links : List ℕ} {o : Content} → Now n limit earlier picks links → (x : Act) (xs : List Act)
-      → Ends bytes n (taking picks links x) (befores (x ∷ earlier) xs) o → Ends bytes n picks (befores earlier (x ∷ xs)) o
+  picks-told : {earlier : List Act} {picks : List (List ℕ)} {links : List ℕ} {o : Content} → Now n limit earlier picks links → (x : Act) (xs : List Act)
+      → EndsAsTold bytes n (picksAfter picks links x) (befores (x ∷ earlier) xs) o → EndsAsTold bytes n picks (befores earlier (x ∷ xs)) o
   unfolding befores
-  gathered s (sets x a b) xs r = r
-  gathered {picks = picks} {links = links} s pick xs r =
+  picks-told s (sets x a b) xs r = r
+  picks-told {picks = picks} {links = links} s pick xs r =
       record { come = links ∷ r .come; as-told = as-more (s .each) (r .as-told); ends = r .ends ∙ ap all (append-assoc picks (links ∷ []) (r .come)) }
 
   -- the bytes behind an act
@@ -107,7 +107,7 @@ module _ (bytes : List ℕ) (n limit : ℕ) where
 
   read-from : (xs earlier : List Act) (turns at : ℕ) (picks : List (List ℕ)) (links : List ℕ) → Now n limit earlier picks links
       → drop at bytes ≡ spellAll xs → Follow n earlier xs → length picks + length (befores earlier xs) ≤ limit → length (spellAll xs) ≤ turns
-      → Ends bytes n picks (befores earlier xs) (commands bytes n limit turns at picks links)
+      → EndsAsTold bytes n picks (befores earlier xs) (commands bytes n limit turns at picks links)
   unfolding spellAll
   read-from [] earlier zero at picks links s e f h t = absurd (not-suc-le-zero t)
   read-from [] earlier (suc turns) at picks links s e f h t =
@@ -122,9 +122,9 @@ module _ (bytes : List ℕ) (n limit : ℕ) where
   read-from (x ∷ xs) earlier (suc turns) at picks links s e f h t =
       let (m, g) = follow-may s x xs f h in
       let q = rw (sym (as-many picks links earlier x xs)) at h in
-      let r = read-from xs (x ∷ earlier) turns (at + length (spell x)) (taking picks links x) (after links x) (now-on s x m)
+      let r = read-from xs (x ∷ earlier) turns (at + length (spell x)) (picksAfter picks links x) (linksAfter links x) (now-on s x m)
       (behind at x (spellAll xs) e) g q (omega (arith, some x, simp length-append at t)) in
-      gathered s x xs (rw (sym (act-turn bytes n limit turns at picks links x (spellAll xs) e m)) at r)
+      picks-told s x xs (rw (sym (act-turn bytes n limit turns at picks links x (spellAll xs) e m)) at r)
 
 -- ---- the file
 
@@ -133,7 +133,7 @@ module _ (limit : ℕ) (bytes out : List ℕ) where
   unfolding readFile spellFile
   spelled m ps end i =
       let (q, last) = is-alone bytes (recordingAt limit (length out) bytes 0) m ps end i in
-      let f = found limit (length out) bytes 0 m ps end q in
+      let f = ended-reading limit (length out) bytes 0 m ps end q in
       let r = spelled-from bytes m limit m ps end last (length bytes) 2 [] (zeros m) [] (now-start m limit) (f .whole) in
       record {
         limit-low = f .head .some;
@@ -148,7 +148,7 @@ module _ (limit : ℕ) (bytes out : List ℕ) where
         few = omega (arith, r .few);
       }
 
-  read-whole : (r : Reads limit (length out) bytes) → Ends bytes (r .n) [] (befores [] (r .acts)) (readFile limit (length out) bytes)
+  read-whole : (r : Reads limit (length out) bytes) → EndsAsTold bytes (r .n) [] (befores [] (r .acts)) (readFile limit (length out) bytes)
   unfolding firstOr readFile spellFile
   read-whole r =
       let n = r .n in

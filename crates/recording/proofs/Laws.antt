@@ -6,8 +6,8 @@ use native.Mathlib.Nat.{zero-mul, suc-mul, not-suc-le-zero, le-of-suc-le-suc, mu
 use native.Mathlib.Omega.{arith}
 use borrow.Author.Tests.{ltb-false}
 use lib.Dec.{ltb}
-use lib.ListN.{length, getD, take, drop, length-append, length-drop}
-use lib.Seq.{getD-append-add, getD-drop, take-at, drop-append-add, take-suc, take-length}
+use lib.ListN.{length, getD, take, drop, length-append}
+use lib.Seq.{take-at, drop-append-add, take-suc, take-length}
 use Rattle.lists.proofs.Splice.{splice-length, word-after}
 use Rattle.lists.specs.Tab.{splice}
 use Rattle.model.specs.Recording.{Recording, pickAt}
@@ -16,12 +16,13 @@ use Rattle.model.specs.declared.Refusal.{Refusal}
 use Rattle.model.specs.declared.Refusal.the-variants as cause
 use Rattle.model.proofs.Causes.{none-refused}
 use Rattle.model.proofs.Refusals.{number-range}
-use Rattle.checks.specs.Lent.{lentPick, lentPicks}
-use Rattle.recording.specs.Format.{Content, ended, refused, alone, recordingAt, readFile, words, stored}
+use Rattle.links.specs.Picks.{lentPick}
+use Rattle.checks.specs.Lent.{lentPicks}
+use Rattle.recording.specs.Format.{Content, ended, refused, alone, recordingAt, readFile, words, outputAfter}
 use Rattle.recording.specs.Answers.{Read, read, ReadAt, readAt, fileSays, partSays, partOf, readSays, readLeaves, readAtSays, readAtLeaves}
 use Rattle.recording.specs.Gives.{Gives}
 use Rattle.commands.proofs.Admit.{no}
-use Rattle.recording.proofs.Sound.{Found, found}
+use Rattle.recording.proofs.Sound.{EndedReading, ended-reading}
 
 -- ---- the words of picks over the front of the output
 
@@ -50,7 +51,7 @@ lent-back n ps rest a (suc k) h =
 -- ---- a recording that is read, wherever it starts
 
 module _ {limit : ℕ} {bytes : List ℕ} {start n : ℕ} {picks : List (List ℕ)} {end : ℕ} (out : List ℕ)
-    (f : Found limit (length out) bytes start n picks end) where
+    (f : EndedReading limit (length out) bytes start n picks end) where
   fits : length picks * n ≤ length out
   fits = omega (arith, mul-le-mul-right n (f .sound .few), f .head .room-for)
 
@@ -89,9 +90,9 @@ module _ (limit : ℕ) (bytes : List ℕ) (start : ℕ) (out : List ℕ) where
   read-at-law n count end q = by (recordingAt limit (length out) bytes start) refl q
     where
       by : (o : Content) → recordingAt limit (length out) bytes start ≡ o → partSays (partOf o) ≡ readAt 0 n count end
-          → Gives limit n count out (stored o out) × (start < end) × (end ≤ length bytes)
+          → Gives limit n count out (outputAfter o out) × (start < end) × (end ≤ length bytes)
       by (ended m ps e) i j =
-          let f = found limit (length out) bytes start m ps e i in
+          let f = ended-reading limit (length out) bytes start m ps e i in
           let em : m ≡ n = ap (λ (a : ReadAt). a .boards) j in
           let ec : length ps ≡ count = ap (λ (a : ReadAt). a .picks) j in
           let ee : e ≡ end = ap (λ (a : ReadAt). a .end) j in
@@ -102,14 +103,14 @@ module _ (limit : ℕ) (bytes : List ℕ) (start : ℕ) (out : List ℕ) where
   pub picks-at-law : (n : ℕ) (picks : List (List ℕ)) (end : ℕ) → recordingAt limit (length out) bytes start ≡ ended n picks end
       → lentPicks n (readAtLeaves limit bytes start out) (length picks) ≡ picks
   unfolding readAtLeaves
-  picks-at-law n picks end q = rw q (back out (found limit (length out) bytes start n picks end q))
+  picks-at-law n picks end q = rw q (back out (ended-reading limit (length out) bytes start n picks end q))
 
   -- a refused reading changes nothing
   pub refused-at-law : (readAtSays limit bytes start out .refusal ≡ 0 → ⊥) → readAtLeaves limit bytes start out ≡ out
   unfolding readAtSays readAtLeaves
   refused-at-law h = by (recordingAt limit (length out) bytes start) h
     where
-      by : (o : Content) → (partSays (partOf o) .refusal ≡ 0 → ⊥) → stored o out ≡ out
+      by : (o : Content) → (partSays (partOf o) .refusal ≡ 0 → ⊥) → outputAfter o out ≡ out
       by (ended m ps e) g = absurd (g refl)
       by (refused r) g = refl
 
@@ -118,8 +119,8 @@ module _ (limit : ℕ) (bytes : List ℕ) (start : ℕ) (out : List ℕ) where
   unfolding readAtLeaves
   length-at-law = by (recordingAt limit (length out) bytes start) refl
     where
-      by : (o : Content) → recordingAt limit (length out) bytes start ≡ o → length (stored o out) ≡ length out
-      by (ended m ps e) i = long out (found limit (length out) bytes start m ps e i)
+      by : (o : Content) → recordingAt limit (length out) bytes start ≡ o → length (outputAfter o out) ≡ length out
+      by (ended m ps e) i = long out (ended-reading limit (length out) bytes start m ps e i)
       by (refused r) i = refl
 
 -- ---- `read`
@@ -133,46 +134,46 @@ is-alone bytes (ended m qs f) n ps e q =
 is-alone bytes (refused r) n ps e q = absurd (no cc)
 
 module _ (limit : ℕ) (bytes out : List ℕ) where
-  whole : (n : ℕ) (picks : List (List ℕ)) (end : ℕ) → readFile limit (length out) bytes ≡ ended n picks end
-      → Found limit (length out) bytes 0 n picks end
+  file-reading : (n : ℕ) (picks : List (List ℕ)) (end : ℕ) → readFile limit (length out) bytes ≡ ended n picks end
+      → EndedReading limit (length out) bytes 0 n picks end
   unfolding readFile
-  whole n picks end q = found limit (length out) bytes 0 n picks end (is-alone bytes (recordingAt limit (length out) bytes 0) n picks end q .0)
+  file-reading n picks end q = ended-reading limit (length out) bytes 0 n picks end (is-alone bytes (recordingAt limit (length out) bytes 0) n picks end q .0)
 
   -- a file that is read: 2 to 32 boards, at most `limit` picks, and the output words are a recording
   pub read-law : (n count : ℕ) → readSays limit bytes out ≡ read 0 n count → Gives limit n count out (readLeaves limit bytes out)
   unfolding readSays readLeaves
   read-law n count q = by (readFile limit (length out) bytes) refl q
     where
-      by : (o : Content) → readFile limit (length out) bytes ≡ o → fileSays o ≡ read 0 n count → Gives limit n count out (stored o out)
+      by : (o : Content) → readFile limit (length out) bytes ≡ o → fileSays o ≡ read 0 n count → Gives limit n count out (outputAfter o out)
       by (ended m ps e) i j =
           let em : m ≡ n = ap (λ (a : Read). a .boards) j in
           let ec : length ps ≡ count = ap (λ (a : Read). a .picks) j in
-          rw (sym em, sym ec) (gives out (whole m ps e i))
+          rw (sym em, sym ec) (gives out (file-reading m ps e i))
       by (refused r) i j = absurd (number-positive r (ap (λ (a : Read). a .refusal) j))
 
   module _ (n : ℕ) (picks : List (List ℕ)) (end : ℕ) (q : readFile limit (length out) bytes ≡ ended n picks end) where
     -- the words lent back from the output are the picks of the definition
     pub picks-law : lentPicks n (readLeaves limit bytes out) (length picks) ≡ picks
     unfolding readLeaves
-    picks-law = rw q (back out (whole n picks end q))
+    picks-law = rw q (back out (file-reading n picks end q))
 
     -- the words of pick p stand from word (p - 1) * n on
     pub pick-law : (p : ℕ) → 1 ≤ p → p ≤ length picks → take n (drop ((p - 1) * n) (readLeaves limit bytes out)) ≡ pickAt picks p
     unfolding readLeaves lentPick
     pick-law zero a b = absurd (omega arith)
-    pick-law (suc p) a b = let e : suc p - 1 ≡ p = omega arith in rw (q, e) (one out (whole n picks end q) p b)
+    pick-law (suc p) a b = let e : suc p - 1 ≡ p = omega arith in rw (q, e) (one out (file-reading n picks end q) p b)
 
     -- nothing stands after the 45
     pub end-law : end ≡ length bytes
     unfolding readFile
-    end-law = omega (arith, is-alone bytes (recordingAt limit (length out) bytes 0) n picks end q .1, whole n picks end q .sound .inside)
+    end-law = omega (arith, is-alone bytes (recordingAt limit (length out) bytes 0) n picks end q .1, file-reading n picks end q .sound .inside)
 
   -- a refused reading changes nothing
   pub refused-law : (readSays limit bytes out .refusal ≡ 0 → ⊥) → readLeaves limit bytes out ≡ out
   unfolding readSays readLeaves
   refused-law h = by (readFile limit (length out) bytes) h
     where
-      by : (o : Content) → (fileSays o .refusal ≡ 0 → ⊥) → stored o out ≡ out
+      by : (o : Content) → (fileSays o .refusal ≡ 0 → ⊥) → outputAfter o out ≡ out
       by (ended m ps e) g = absurd (g refl)
       by (refused r) g = refl
 
@@ -181,6 +182,6 @@ module _ (limit : ℕ) (bytes out : List ℕ) where
   unfolding readLeaves
   length-law = by (readFile limit (length out) bytes) refl
     where
-      by : (o : Content) → readFile limit (length out) bytes ≡ o → length (stored o out) ≡ length out
-      by (ended m ps e) i = long out (whole m ps e i)
+      by : (o : Content) → readFile limit (length out) bytes ≡ o → length (outputAfter o out) ≡ length out
+      by (ended m ps e) i = long out (file-reading m ps e i)
       by (refused r) i = refl

@@ -10,12 +10,12 @@ use Rattle.commands.proofs.Command as command
 use Rattle.commands.proofs.Others.{NotBoards, not-boards, NotLater, not-later}
 use Rattle.commands.specs.declared.Command.{Command}
 use Rattle.commands.specs.declared.Command.the-variants.{Boards, Later, Not}
-use Rattle.recording.specs.Format.{Content, refused, follow, opened, refusalIn}
+use Rattle.recording.specs.Format.{Content, refused, follow, afterHead, refusalIn}
 
-pub opened-other : (limit : ℕ) (bytes : List ℕ) (start : ℕ) (x : Command) → NotBoards x → opened limit bytes start x ≡ refused (refusalIn x)
-opened-other limit bytes start (Boards n) k = absurd (not-boards n k)
-opened-other limit bytes start (Later i) k = refl
-opened-other limit bytes start (Not r) k = refl
+pub after-head-other : (limit : ℕ) (bytes : List ℕ) (start : ℕ) (x : Command) → NotBoards x → afterHead limit bytes start x ≡ refused (refusalIn x)
+after-head-other limit bytes start (Boards n) k = absurd (not-boards n k)
+after-head-other limit bytes start (Later i) k = refl
+after-head-other limit bytes start (Not r) k = refl
 
 pub follow-other : (more : ℕ → List (List ℕ) → List ℕ → Content) (n at : ℕ) (picks : List (List ℕ)) (links : List ℕ) (x : Command)
     → NotLater x

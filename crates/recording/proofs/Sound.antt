@@ -13,7 +13,7 @@ use Rattle.commands.specs.declared.Item.the-variants.{Link, Pick, End}
 use Rattle.recording.specs.declared.Part.{Part}
 use Rattle.recording.specs.declared.Part.the-variants as partIs
 use Rattle.commands.specs.Causes.{next, headAt}
-use Rattle.recording.specs.Format.{Content, ended, refused, follow, commands, body, opened, recordingAt}
+use Rattle.recording.specs.Format.{Content, ended, refused, follow, commands, body, afterHead, recordingAt}
 use Rattle.recording.specs.Answers.{partOf, GoneOver}
 use Rattle.model.specs.Recording.{Clean, Recording}
 use Rattle.model.proofs.Windows.{rec-append}
@@ -30,7 +30,7 @@ record Good (bytes : List ℕ) (n limit start at : ℕ) (picks : List (List ℕ)
   now : Clean n links
 
 -- a recording over n boards, read from a place of the file
-pub record Sound (bytes : List ℕ) (n limit start m : ℕ) (picks : List (List ℕ)) (end : ℕ) : Type 0 where
+pub record SoundReading (bytes : List ℕ) (n limit start m : ℕ) (picks : List (List ℕ)) (end : ℕ) : Type 0 where
   pub boards : m ≡ n
   pub few : length picks ≤ limit
   pub clean : Recording n picks
@@ -38,20 +38,20 @@ pub record Sound (bytes : List ℕ) (n limit start m : ℕ) (picks : List (List 
   pub inside : end ≤ length bytes
 
 abbrev Lawful : List ℕ → ℕ → ℕ → ℕ → Content → Type 0
-Lawful bytes n limit start (ended m picks end) = Sound bytes n limit start m picks end
+Lawful bytes n limit start (ended m picks end) = SoundReading bytes n limit start m picks end
 Lawful bytes n limit start (refused r) = Unit
 
 module _ (bytes : List ℕ) (n limit start : ℕ) where
-  step : (more : ℕ → List (List ℕ) → List ℕ → Content)
+  lawful-step : (more : ℕ → List (List ℕ) → List ℕ → Content)
       → ((at : ℕ) (picks : List (List ℕ)) (links : List ℕ) → Good bytes n limit start at picks links
       → Lawful bytes n limit start (more at picks links))
       → (at : ℕ) (picks : List (List ℕ)) (links : List ℕ) (x : Command) → next bytes n limit at (length picks) links ≡ x
       → Good bytes n limit start at picks links → Lawful bytes n limit start (follow more n at picks links x)
-  step more ih at picks links (Later (Link a b v)) e g =
+  lawful-step more ih at picks links (Later (Link a b v)) e g =
       let l = next-link bytes n limit at (length picks) links a b v e in
       ih (at + 3) picks _
       record { on = omega (arith, g .on); few = g .few; clean = g .clean; now = clean-flip n links (a .0) (b .0) (g .now) (linkable n (a .0) (b .0) (l .able)) }
-  step more ih at picks links (Later Pick) e g =
+  lawful-step more ih at picks links (Later Pick) e g =
       let h = next-pick bytes n limit at (length picks) links e in
       ih (at + 1) (picks ++ (links ∷ [])) links
       record {
@@ -61,31 +61,31 @@ module _ (bytes : List ℕ) (n limit start : ℕ) where
             (g .now, tt);
         now = g .now;
       }
-  step more ih at picks links (Later End) e g =
+  lawful-step more ih at picks links (Later End) e g =
       let h = next-end bytes n limit at (length picks) links e in
       record { boards = refl; few = g .few; clean = g .clean; after = omega (arith, g .on); inside = omega arith }
-  step more ih at picks links (Boards m) e g = tt
-  step more ih at picks links (Not r) e g = tt
+  lawful-step more ih at picks links (Boards m) e g = tt
+  lawful-step more ih at picks links (Not r) e g = tt
 
   lawful : (turns at : ℕ) (picks : List (List ℕ)) (links : List ℕ) → Good bytes n limit start at picks links
       → Lawful bytes n limit start (commands bytes n limit turns at picks links)
   unfolding commands
   lawful zero at picks links g = tt
-  lawful (suc turns) at picks links g = step (commands bytes n limit turns) (lawful turns) at picks links _ refl g
+  lawful (suc turns) at picks links g = lawful-step (commands bytes n limit turns) (lawful turns) at picks links _ refl g
 
   body-lawful : Lawful bytes n limit start (body limit bytes start n)
   body-lawful = lawful (length bytes) (start + 2) [] (zeros n) record { on = omega arith; few = omega arith; clean = tt; now = zeros-clean n }
 
 -- ---- what an ended reading says
 
-pub record Found (limit room : ℕ) (bytes : List ℕ) (start n : ℕ) (picks : List (List ℕ)) (end : ℕ) : Type 0 where
+pub record EndedReading (limit room : ℕ) (bytes : List ℕ) (start n : ℕ) (picks : List (List ℕ)) (end : ℕ) : Type 0 where
   pub head : Headed limit room bytes start n
   pub whole : body limit bytes start n ≡ ended n picks end
-  pub sound : Sound bytes n limit start n picks end
+  pub sound : SoundReading bytes n limit start n picks end
 
 module _ (limit room : ℕ) (bytes : List ℕ) (start n : ℕ) (picks : List (List ℕ)) (end : ℕ) where
   by-body : (m : ℕ) → Headed limit room bytes start m → (o : Content) → body limit bytes start m ≡ o → Lawful bytes m limit start o
-      → o ≡ ended n picks end → Found limit room bytes start n picks end
+      → o ≡ ended n picks end → EndedReading limit room bytes start n picks end
   by-body m h (ended k ps e) q l i =
       let b = l .boards in
       let en : m ≡ n = cc in
@@ -99,15 +99,15 @@ module _ (limit room : ℕ) (bytes : List ℕ) (start n : ℕ) (picks : List (Li
       }
   by-body m h (refused r) q l i = absurd (no cc)
 
-  by-head : (x : Command) → headAt limit room bytes start ≡ x → opened limit bytes start x ≡ ended n picks end
-      → Found limit room bytes start n picks end
+  by-head : (x : Command) → headAt limit room bytes start ≡ x → afterHead limit bytes start x ≡ ended n picks end
+      → EndedReading limit room bytes start n picks end
   by-head (Boards m) q i = by-body m (headed limit room bytes start m q) _ refl (body-lawful bytes m limit start) i
   by-head (Later j) q i = absurd (no cc)
   by-head (Not r) q i = absurd (no cc)
 
-  pub found : recordingAt limit room bytes start ≡ ended n picks end → Found limit room bytes start n picks end
+  pub ended-reading : recordingAt limit room bytes start ≡ ended n picks end → EndedReading limit room bytes start n picks end
   unfolding recordingAt
-  found i = by-head _ refl i
+  ended-reading i = by-head _ refl i
 
 -- ---- what a caller of `go_over` learns from its answer
 

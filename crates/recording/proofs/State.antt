@@ -12,7 +12,7 @@ use Rattle.lists.specs.Tab.{zeros}
 use Rattle.links.proofs.Bits.{zeros-none, zeros-clean}
 use Rattle.recording.specs.Grammar.{Act, sets, pick, isOpen, befores, Follow}
 use Rattle.recording.proofs.Bits.{clean-flip, link-flipped}
-use Rattle.recording.proofs.Turn.{May, after, taking}
+use Rattle.recording.proofs.Turn.{May, linksAfter, picksAfter}
 
 -- the links are as the acts have set them, and the picks are within the limit
 pub record Now (n limit : ℕ) (earlier : List Act) (picks : List (List ℕ)) (links : List ℕ) : Type 0 where
@@ -31,7 +31,7 @@ set-so true false y z e = ap not e
 set-so false x y z e = refl
 
 module _ {n limit : ℕ} {earlier : List Act} {picks : List (List ℕ)} {links : List ℕ} (s : Now n limit earlier picks links) where
-  pub now-on : (x : Act) → May n limit (length picks) links x → Now n limit (x ∷ earlier) (taking picks links x) (after links x)
+  pub now-on : (x : Act) → May n limit (length picks) links x → Now n limit (x ∷ earlier) (picksAfter picks links x) (linksAfter links x)
   unfolding isOpen
   now-on (sets x a b) m =
       record {
@@ -59,7 +59,7 @@ module _ {n limit : ℕ} {earlier : List Act} {picks : List (List ℕ)} {links :
 
 -- the picks so far and those to come are together as many
 pub as-many : (picks : List (List ℕ)) (links : List ℕ) (earlier : List Act) (x : Act) (xs : List Act)
-    → length (taking picks links x) + length (befores (x ∷ earlier) xs) ≡ length picks + length (befores earlier (x ∷ xs))
+    → length (picksAfter picks links x) + length (befores (x ∷ earlier) xs) ≡ length picks + length (befores earlier (x ∷ xs))
 unfolding befores
 as-many picks links earlier (sets x a b) xs = refl
 as-many picks links earlier pick xs = rw length-append (omega arith)

@@ -11,15 +11,16 @@ use lib.ListN.{length, getD, take, drop, length-drop, take-append-drop}
 use lib.Seq.{length-take-le, drop-cons}
 use Rattle.model.specs.Recording.{link}
 use Rattle.model.specs.Causes.{NoneHolds, firstOr, byNumber}
-use Rattle.commands.specs.declared.Width.the-variants.{Known}
+use Rattle.model.proofs.Causes.{between-in}
+use Rattle.commands.specs.declared.Arity.the-variants.{Known}
 use Rattle.commands.specs.declared.Command.{Command}
 use Rattle.commands.specs.declared.Command.the-variants.{Boards, Later}
 use Rattle.commands.specs.declared.Item.the-variants.{Link}
-use Rattle.commands.specs.Commands.{shapes, lookup, widthOf, commandOf, misplaced, commandAt}
+use Rattle.commands.specs.Commands.{shapes, lookup, arityOf, commandOf, misplaced, commandAt}
 use Rattle.commands.specs.Causes.{noLink, unchanged, laterCauses, next}
 use Rattle.commands.proofs.Admit.{no, Linkable, linkable, stood, Headed}
 use Rattle.commands.proofs.Others.{next-then, head-boards}
-use Rattle.commands.proofs.Table.{Every, by-shape}
+use Rattle.commands.proofs.Table.{EachShape, by-shape}
 use Rattle.commands.proofs.Inverse.{command-here}
 use Rattle.recording.specs.Format.{Content, ended, flipped, follow, commands, body, recordingAt}
 use Rattle.recording.specs.Grammar.{Act, sets, pick, code, spell}
@@ -30,13 +31,13 @@ abbrev pub May : ℕ → ℕ → ℕ → List ℕ → Act → Type 0
 May n limit count links (sets x a b) = Linkable n a b × (link links a b ≡ not x)
 May n limit count links pick = count < limit
 
-abbrev pub after : List ℕ → Act → List ℕ
-after links (sets x a b) = flipped links a b
-after links pick = links
+abbrev pub linksAfter : List ℕ → Act → List ℕ
+linksAfter links (sets x a b) = flipped links a b
+linksAfter links pick = links
 
-abbrev pub taking : List (List ℕ) → List ℕ → Act → List (List ℕ)
-taking picks links (sets x a b) = picks
-taking picks links pick = picks ++ (links ∷ [])
+abbrev pub picksAfter : List (List ℕ) → List ℕ → Act → List (List ℕ)
+picksAfter picks links (sets x a b) = picks
+picksAfter picks links pick = picks ++ (links ∷ [])
 
 -- ---- forwards: the turn at bytes that are known
 
@@ -49,7 +50,7 @@ changes false y e = ap not e
 
 module _ (bytes : List ℕ) (at c : ℕ) (rest : List ℕ) (e : drop at bytes ≡ c ∷ rest) where
   -- the command that is taken apart there
-  here : (first : Bool) (k : ℕ) → misplaced first c ≡ false → widthOf c ≡ Known k → k ≤ length rest
+  here : (first : Bool) (k : ℕ) → misplaced first c ≡ false → arityOf c ≡ Known k → k ≤ length rest
       → commandAt first bytes at ≡ commandOf c (getD rest 0 0) (getD rest 1 0)
   here first k m w h =
       let l : length (drop at bytes) ≡ suc (length rest) = ap length e in
@@ -59,8 +60,8 @@ module _ (bytes : List ℕ) (at c : ℕ) (rest : List ℕ) (e : drop at bytes �
 
 module _ (bytes : List ℕ) (n limit turns at : ℕ) (picks : List (List ℕ)) (links : List ℕ) where
   pub act-turn : (x : Act) (rest : List ℕ) → drop at bytes ≡ spell x ++ rest → May n limit (length picks) links x
-      → commands bytes n limit (suc turns) at picks links ≡ commands bytes n limit turns (at + length (spell x)) (taking picks links x) (after links x)
-  unfolding commands firstOr commandOf widthOf lookup
+      → commands bytes n limit (suc turns) at picks links ≡ commands bytes n limit turns (at + length (spell x)) (picksAfter picks links x) (linksAfter links x)
+  unfolding commands firstOr commandOf arityOf lookup
   act-turn (sets true a b) rest e m =
       simp (next-then, here bytes at 0x4F (a ∷ b ∷ rest) e false 2 refl refl (omega arith), able n a b (m .0), changes true (link links a b) (m .1))
   act-turn (sets false a b) rest e m =
@@ -68,17 +69,17 @@ module _ (bytes : List ℕ) (n limit turns at : ℕ) (picks : List (List ℕ)) (
   act-turn pick rest e m = simp (next-then, here bytes at 0x50 rest e false 0 refl refl (omega arith), lt-leb limit (length picks) m)
 
   pub end-turn : (rest : List ℕ) → drop at bytes ≡ 0x45 ∷ rest → commands bytes n limit (suc turns) at picks links ≡ ended n picks (at + 1)
-  unfolding commands firstOr commandOf widthOf lookup
+  unfolding commands firstOr commandOf arityOf lookup
   end-turn rest e = simp (next-then, here bytes at 0x45 rest e false 0 refl refl (omega arith))
 
 -- the first command, where the call and n pass
 pub head-turn : (limit room : ℕ) (bytes : List ℕ) (n : ℕ) (rest : List ℕ) → bytes ≡ 0x42 ∷ n ∷ rest → 1 ≤ limit → limit ≤ 4096
     → 2 ≤ n → n ≤ 32
     → limit * n ≤ room → recordingAt limit room bytes 0 ≡ body limit bytes 0 n
-unfolding recordingAt firstOr commandOf widthOf lookup
+unfolding recordingAt firstOr commandOf arityOf lookup
 head-turn limit room bytes n rest e a b c d r =
     let h = here bytes 0 0x42 (n ∷ rest) e true 1 refl refl (omega arith) in
-    simp (head-boards room bytes 0 (λ z. omega arith) b refl h, le-ltb n 2 c, le-ltb 32 n d, le-ltb room (limit * n) r)
+    simp (head-boards limit room bytes 0 (between-in 1 limit 4096 a b) refl h, between-in 2 n 32 c d, le-ltb room (limit * n) r)
 
 -- ---- backwards: the bytes at a turn that goes on
 
@@ -90,29 +91,29 @@ abbrev pub More : Type 0
 More = ℕ → List (List ℕ) → List ℕ → Content
 
 -- where a turn goes that is not refused: at an act it goes on, at the 45 it ends
-pub data Turned (bytes : List ℕ) (n limit at : ℕ) (picks : List (List ℕ)) (links : List ℕ) (more : More) (o : Content) : Type 0 where
+pub data TurnTold (bytes : List ℕ) (n limit at : ℕ) (picks : List (List ℕ)) (links : List ℕ) (more : More) (o : Content) : Type 0 where
   at-act : (x : Act) → drop at bytes ≡ spell x ++ drop (at + length (spell x)) bytes → May n limit (length picks) links x
-      → more (at + length (spell x)) (taking picks links x) (after links x) ≡ o → Turned bytes n limit at picks links more o
-  at-end : drop at bytes ≡ 0x45 ∷ drop (at + 1) bytes → ended n picks (at + 1) ≡ o → Turned bytes n limit at picks links more o
+      → more (at + length (spell x)) (picksAfter picks links x) (linksAfter links x) ≡ o → TurnTold bytes n limit at picks links more o
+  at-end : drop at bytes ≡ 0x45 ∷ drop (at + 1) bytes → ended n picks (at + 1) ≡ o → TurnTold bytes n limit at picks links more o
 
 module _ (bytes : List ℕ) (n limit at : ℕ) (picks : List (List ℕ)) (links : List ℕ) (more : More) (m : ℕ) (ps : List (List ℕ)) (end : ℕ) where
   abbrev Goes : Command → Type 0
   Goes x = follow more n at picks links x ≡ ended m ps end
 
   -- none of its causes holds
-  abbrev Fits : Command → Type 0
-  Fits x = NoneHolds (byNumber (laterCauses n limit (length picks) links x))
+  abbrev Uncaused : Command → Type 0
+  Uncaused x = NoneHolds (byNumber (laterCauses n limit (length picks) links x))
 
   abbrev Here : Type 0
-  Here = Turned bytes n limit at picks links more (ended m ps end)
+  Here = TurnTold bytes n limit at picks links more (ended m ps end)
 
   -- what is to be shown of a command byte at the place, with k operands
   abbrev Byte : ℕ → ℕ → Type 0
   Byte b k = b ≡ getD bytes at 0 → misplaced false b ≡ false → at + 1 + k ≤ length bytes
-      → Fits (commandOf b (getD bytes (at + 1) 0) (getD bytes (at + 2) 0)) → Goes (commandOf b (getD bytes (at + 1) 0) (getD bytes (at + 2) 0)) → Here
+      → Uncaused (commandOf b (getD bytes (at + 1) 0) (getD bytes (at + 2) 0)) → Goes (commandOf b (getD bytes (at + 1) 0) (getD bytes (at + 2) 0)) → Here
 
   by-link : (x : Bool) → code x ≡ getD bytes at 0 → at + 1 + 2 ≤ length bytes
-      → (let i = Later (Link (record { 0 = getD bytes (at + 1) 0 }) (record { 0 = getD bytes (at + 2) 0 }) x) in Fits i → Goes i → Here)
+      → (let i = Later (Link (record { 0 = getD bytes (at + 1) 0 }) (record { 0 = getD bytes (at + 2) 0 }) x) in Uncaused i → Goes i → Here)
   by-link x e h f q =
       let a = getD bytes (at + 1) 0 in
       let b = getD bytes (at + 2) 0 in
@@ -137,19 +138,19 @@ module _ (bytes : List ℕ) (n limit at : ℕ) (picks : List (List ℕ)) (links 
   unfolding commandOf
   by-end e g h f q = at-end (rw e (front bytes at (at + 1) (omega arith) (omega arith))) q
 
-  each-byte : Every Byte shapes
+  each-byte : EachShape Byte shapes
   unfolding commandOf
   each-byte = ((λ e g. absurd (true≢false g)), ((λ e g h f q. by-link true e h f q), ((λ e g h f q. by-link false e h f q), (by-pick, (by-end, tt)))))
 
-  pub turned : Goes (next bytes n limit at (length picks) links) → Here
-  unfolding next widthOf
-  turned q =
+  pub turn-told : Goes (next bytes n limit at (length picks) links) → Here
+  unfolding next arityOf
+  turn-told q =
       let s = stood (laterCauses n limit (length picks) links) Goes (λ r z. no cc) false bytes at q in
-      by-shape Byte shapes each-byte (getD bytes at 0) (s .operands) (s .width) refl (s .placed) (s .within) (s .fits) (s .says)
+      by-shape Byte shapes each-byte (getD bytes at 0) (s .operands) (s .arity) refl (s .placed) (s .within) (s .fits) (s .says)
 
 -- the first command
 pub head-back : {limit room : ℕ} {bytes : List ℕ} {n : ℕ} → Headed limit room bytes 0 n → bytes ≡ 0x42 ∷ n ∷ drop 2 bytes
-unfolding commandOf widthOf lookup
+unfolding commandOf arityOf lookup
 head-back {bytes = bytes} {n = n} h =
     let s = h .stands in
     let b : getD bytes 0 0 ≡ 0x42 = eqb-true (getD bytes 0 0) 0x42 (not-false (eqb (getD bytes 0 0) 0x42) (s .placed)) in

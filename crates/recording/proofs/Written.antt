@@ -6,8 +6,7 @@ use mathlib.Core.List.{List, [], _∷_, _++_, append-nil, append-assoc}
 use Prim.Native.Nat.{ℕ, zero, suc, _+_, _-_, _*_, _≤_, _<_, zero-le}
 use native.Mathlib.Nat.{mul-le-mul-right, zero-mul}
 use native.Mathlib.Omega.{arith}
-use lib.ListN.{length, drop, length-append}
-use lib.Seq.{take-at, drop-at, drop-drop}
+use lib.ListN.{length, length-append}
 use Rattle.lists.proofs.Splice.{splice-more, splice-none}
 use Rattle.lists.specs.Tab.{splice}
 use Rattle.commands.proofs.Admit.{in-links, next-link, next-pick}

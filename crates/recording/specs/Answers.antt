@@ -9,7 +9,7 @@ use Rattle.recording.specs.declared.Part.{Part}
 use Rattle.recording.specs.declared.Part.the-variants as partIs
 use Rattle.recording.specs.declared.Reading.{Reading}
 use Rattle.recording.specs.declared.Reading.the-variants as readingIs
-use Rattle.recording.specs.Format.{Content, ended, refused, recordingAt, readFile, stored}
+use Rattle.recording.specs.Format.{Content, ended, refused, recordingAt, readFile, outputAfter}
 
 -- the number of the refusal, 0 for none; n and the number of picks, 0 where refused
 pub record Read : Type 0 where
@@ -53,7 +53,7 @@ partOf (refused r) = partIs.Refused r
 -- going over a recording answers what it is, and leaves its words only where it writes
 pub record GoneOver (writes : Bool) (o : Content) (out : List ℕ) (r : Part) (left : List ℕ) : Type 0 where
   pub says : r ≡ partOf o
-  pub leaves : left ≡ cond writes (stored o out) out
+  pub leaves : left ≡ cond writes (outputAfter o out) out
 
 -- ---- `read`
 
@@ -61,7 +61,7 @@ unfoldable pub readSays : ℕ → List ℕ → List ℕ → Read
 readSays limit bytes out = fileSays (readFile limit (length out) bytes)
 
 unfoldable pub readLeaves : ℕ → List ℕ → List ℕ → List ℕ
-readLeaves limit bytes out = stored (readFile limit (length out) bytes) out
+readLeaves limit bytes out = outputAfter (readFile limit (length out) bytes) out
 
 -- ---- `read_at`
 
@@ -69,4 +69,4 @@ unfoldable pub readAtSays : ℕ → List ℕ → ℕ → List ℕ → ReadAt
 readAtSays limit bytes start out = partSays (partOf (recordingAt limit (length out) bytes start))
 
 unfoldable pub readAtLeaves : ℕ → List ℕ → ℕ → List ℕ → List ℕ
-readAtLeaves limit bytes start out = stored (recordingAt limit (length out) bytes start) out
+readAtLeaves limit bytes start out = outputAfter (recordingAt limit (length out) bytes start) out

@@ -4,7 +4,7 @@ use mathlib.Core.List.{List, [], _∷_, _++_}
 use Prim.Native.Nat.{ℕ, zero, suc, _+_, _^_}
 use lib.Bits.{bitXor}
 use lib.Dec.{ltb}
-use lib.ListN.{length, getD, set, take, drop}
+use lib.ListN.{length, getD, set}
 use Rattle.model.specs.declared.Refusal.{Refusal}
 use Rattle.model.specs.declared.Refusal.the-variants as cause
 use Rattle.model.specs.Causes.{firstOr}
@@ -49,14 +49,14 @@ refusalIn (Later i) = cause.Command
 abbrev pub body : ℕ → List ℕ → ℕ → ℕ → Content
 body limit bytes start n = commands bytes n limit (length bytes) (start + 2) [] (zeros n)
 
-abbrev pub opened : ℕ → List ℕ → ℕ → Command → Content
-opened limit bytes start (Boards n) = body limit bytes start n
-opened limit bytes start (Later i) = refused cause.Command
-opened limit bytes start (Not r) = refused r
+abbrev pub afterHead : ℕ → List ℕ → ℕ → Command → Content
+afterHead limit bytes start (Boards n) = body limit bytes start n
+afterHead limit bytes start (Later i) = refused cause.Command
+afterHead limit bytes start (Not r) = refused r
 
 -- the recording that starts at a place of the file and ends with its 45
 unfoldable pub recordingAt : ℕ → ℕ → List ℕ → ℕ → Content
-recordingAt limit room bytes start = opened limit bytes start (headAt limit room bytes start)
+recordingAt limit room bytes start = afterHead limit bytes start (headAt limit room bytes start)
 
 -- bytes after 45
 abbrev pub alone : List ℕ → Content → Content
@@ -79,6 +79,6 @@ words [] = []
 words (p ∷ ps) = p ++ words ps
 
 -- the output words after a reading
-abbrev pub stored : Content → List ℕ → List ℕ
-stored (ended n picks end) out = splice 0 (length (words picks)) (words picks) out
-stored (refused r) out = out
+abbrev pub outputAfter : Content → List ℕ → List ℕ
+outputAfter (ended n picks end) out = splice 0 (length (words picks)) (words picks) out
+outputAfter (refused r) out = out

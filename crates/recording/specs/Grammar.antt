@@ -7,7 +7,7 @@ use Prim.Native.Nat.{ℕ, _*_, _≤_, _<_}
 use lib.Dec.{T, eqb}
 use lib.ListN.{length, getD}
 use Rattle.model.specs.Recording.{link}
-use Rattle.checks.specs.Lent.{lentPick}
+use Rattle.links.specs.Picks.{lentPick}
 use Rattle.recording.specs.Answers.{read, readSays, readLeaves}
 
 -- what stands between the 42 with its n and the 45

@@ -51,9 +51,10 @@ fn refusal_in(command: Command) -> Refusal
 }
 
 // Writes the open links as the pick with that many before it; nothing where the file is only checked.
-fn put(out: &mut [u32], before: usize, n: usize, links: &[u32], writes: bool)
+fn put_pick(out: &mut [u32], before: usize, n: usize, links: &[u32], writes: bool)
     requires { ⌜ (n ≡ length (now links)) × (before * n + n ≤ length (now out)) ⌝ }
-    ensures { λ _. ⌜ now (out .exit) ≡ cond writes (splice (before * n) (length (now (links .entry))) (now (links .entry)) (now (out .entry))) (now (out .entry)) ⌝ }
+    ensures { λ _. ⌜ now (out .exit) ≡ cond writes (splice (before * n) (length (now (links .entry))) (now (links .entry)) (now (out .entry)))
+        (now (out .entry)) ⌝ }
 {
     if !writes {
         return;
@@ -91,7 +92,7 @@ fn go_over_commands(
                 at += 3;
             }
             Item::Pick => {
-                put(out, picks, n, links, writes);
+                put_pick(out, picks, n, links, writes);
                 picks += 1;
                 at += 1;
             }

@@ -13,13 +13,14 @@ use lib.Dec.{T, eqb, eqb→eq, eqb-refl}
 use lib.ListN.{getD}
 use lib.Pow.{pow-pos, ones-lt}
 use Rattle.model.specs.Recording.{bit, link}
+use Rattle.model.specs.Journey.{mostLinks}
 use Rattle.model.proofs.Logic.{tr, bool-ext, or-l, or-r, or-cases, and-both, and-l, and-r, not-in, not-out, ne-eqb, eq-or, eq-refl}
 use Rattle.model.proofs.Bits.{bit-zero, bit-suc, bit-high, bit-or, bit-and, bit-one}
 use Rattle.model.proofs.Ones.{bit-low, all-in, all-out}
 use Rattle.lists.specs.Tab.{kept}
 use Rattle.lists.proofs.Tab.{every-in, every-out}
 use Rattle.links.specs.Tables.{without, within, pairFull, rowFull, full}
-use Rattle.links.proofs.Bits.{bit-kept, bit-left, without-less, bit-below, without-lt}
+use Rattle.links.proofs.Bits.{bit-kept, bit-left, without-less, bit-below, without-lt, below-pow}
 use Rattle.links.proofs.Ways.{Way, one, more, snoc, Short, within-way, way-short, Led, onward}
 use Rattle.searches.specs.Search.{leading, collect, sidePair, sideFull}
 
@@ -43,10 +44,6 @@ some-bit (suc m) x h ne =
     ⊎-elim (λ (e : x % 2 ≡ 1). (0, tr (sym (bit-zero x)) (eq-refl e)))
     (λ (e : x % 2 ≢ 1). let q = some-bit m (x / 2) (omega arith) (λ z. ne (omega arith)) in (suc (q .0), tr (sym (bit-suc x (q .0))) (q .1)))
     (eq-or (x % 2) 1)
-
-pub below-pow : (x : ℕ) → x < 2 ^ x
-below-pow zero = omega arith
-below-pow (suc x) = omega (arith, below-pow x)
 
 -- a row and s have a board in common
 meets : ℕ → ℕ → Bool
@@ -216,7 +213,7 @@ pub gone-seen : {n s rest : ℕ} {t : List ℕ} → Gone n t s rest → Seen fal
 gone-seen m = record { first = m .first; sound = m .sound; far = λ c v h l p. absurd (none p l) }
 
 -- the links of all that it has are followed
-pub gone-end : {n s rest : ℕ} {t : List ℕ} → Gone n t s rest → bitAnd s rest ≡ 0 → Seen false n t s 31
+pub gone-end : {n s rest : ℕ} {t : List ℕ} → Gone n t s rest → bitAnd s rest ≡ 0 → Seen false n t s mostLinks
 gone-end {n} {s} {rest} {t} m e = record { first = m .first; sound = m .sound; far = λ c v h l p. go (omega arith) (m .first) p }
   where
     left : (w : ℕ) → T (bit s w) → T (not (bit rest w))
@@ -230,54 +227,55 @@ gone-end {n} {s} {rest} {t} m e = record { first = m .first; sound = m .sound; f
 -- ---- what a search tells
 
 -- a marked pair of the closure, as ways
-pair-in : (n : ℕ) (t : List ℕ) (u v : ℕ) → n ≤ 32 → u < n → v < n → Led t n u v → T (pairFull (within n 31 t) u v)
+pair-in : (n : ℕ) (t : List ℕ) (u v : ℕ) → n ≤ 32 → u < n → v < n → Led t n u v → T (pairFull (within n mostLinks t) u v)
 unfolding pairFull
 pair-in n t u v n32 hu hv p =
-    ⊎-elim (λ (e : u ≡ v). or-l (eqb u v) (link (within n 31 t) u v) (eq-refl e))
-    (λ (ne : u ≢ v). let hv32 = lt-of-lt-of-le hv n32 in or-r (eqb u v) (link (within n 31 t) u v)
-    (within-way n 31 t n32 u v hu hv32 .1 (ne, way-short n32 hu hv32 ne (p .1)))) (eq-or u v)
+    ⊎-elim (λ (e : u ≡ v). or-l (eqb u v) (link (within n mostLinks t) u v) (eq-refl e))
+    (λ (ne : u ≢ v). let hv32 = lt-of-lt-of-le hv n32 in or-r (eqb u v) (link (within n mostLinks t) u v)
+    (within-way n mostLinks t n32 u v hu hv32 .1 (ne, way-short n32 hu hv32 ne (p .1)))) (eq-or u v)
 
-pub pair-out : (n : ℕ) (t : List ℕ) (u v : ℕ) → n ≤ 32 → u < n → v < n → T (pairFull (within n 31 t) u v) → (u ≡ v) ⊎ Short n 31 t u v
+pub pair-out : (n : ℕ) (t : List ℕ) (u v : ℕ) → n ≤ 32 → u < n → v < n → T (pairFull (within n mostLinks t) u v) → (u ≡ v) ⊎ Short n mostLinks t u v
 unfolding pairFull
 pair-out n t u v n32 hu hv m =
     ⊎-elim (λ (e : T (eqb u v)). inl (eqb→eq u v e))
-    (λ (l : T (link (within n 31 t) u v)). inr (within-way n 31 t n32 u v hu (lt-of-lt-of-le hv n32) .0 l .1))
-    (or-cases (eqb u v) (link (within n 31 t) u v) m)
+    (λ (l : T (link (within n mostLinks t) u v)). inr (within-way n mostLinks t n32 u v hu (lt-of-lt-of-le hv n32) .0 l .1))
+    (or-cases (eqb u v) (link (within n mostLinks t) u v) m)
 
 pair-same : (t : List ℕ) {u v : ℕ} → u ≡ v → T (pairFull t u v)
 unfolding pairFull
 pair-same t {u} {v} e = or-l (eqb u v) (link t u v) (eq-refl e)
 
 -- what is found is marked
-up : (back : Bool) (n : ℕ) (t : List ℕ) (v : ℕ) → n ≤ 32 → v < n → Found back n t v → T (sidePair back (within n 31 t) v)
-up false n t v n32 h r = ⊎-elim (pair-same (within n 31 t)) (pair-in n t 0 v n32 (omega arith) h) r
+up : (back : Bool) (n : ℕ) (t : List ℕ) (v : ℕ) → n ≤ 32 → v < n → Found back n t v → T (sidePair back (within n mostLinks t) v)
+up false n t v n32 h r = ⊎-elim (pair-same (within n mostLinks t)) (pair-in n t 0 v n32 (omega arith) h) r
 up true n t v n32 h r =
-    ⊎-elim (λ (e : _≡_ {A = ℕ} 0 v). pair-same (within n 31 t) (sym e)) (λ (p : (v < n) × Led t n v 0). pair-in n t v 0 n32 h (omega arith) (p .1)) r
+    ⊎-elim (λ (e : _≡_ {A = ℕ} 0 v). pair-same (within n mostLinks t) (sym e)) (λ (p : (v < n) × Led t n v 0). pair-in n t v 0 n32 h (omega arith) (p .1)) r
 
--- what is marked is board 0, or at most 31 links away
-down : (back : Bool) (n : ℕ) (t : List ℕ) (v : ℕ) → n ≤ 32 → v < n → T (sidePair back (within n 31 t) v)
-    → (_≡_ {A = ℕ} 0 v) ⊎ ((c : ℕ) × (c ≤ 31) × Away back n t c v)
+-- what is marked is board 0, or at most `mostLinks` away
+down : (back : Bool) (n : ℕ) (t : List ℕ) (v : ℕ) → n ≤ 32 → v < n → T (sidePair back (within n mostLinks t) v)
+    → (_≡_ {A = ℕ} 0 v) ⊎ ((c : ℕ) × (c ≤ mostLinks) × Away back n t c v)
 down false n t v n32 h m = pair-out n t 0 v n32 (omega arith) h m
-down true n t v n32 h m = ⊎-elim (λ (e : v ≡ 0). inl (sym e)) (λ (p : Short n 31 t v 0). inr p) (pair-out n t v 0 n32 h (omega arith) m)
+down true n t v n32 h m = ⊎-elim (λ (e : v ≡ 0). inl (sym e)) (λ (p : Short n mostLinks t v 0). inr p) (pair-out n t v 0 n32 h (omega arith) m)
 
 module _ {back : Bool} {n s k : ℕ} {t : List ℕ} (n32 : n ≤ 32) (m : Seen back n t s k) where
   -- it has all boards
-  pub seen-all : bitAnd s (2 ^ n - 1) ≡ 2 ^ n - 1 → T (sideFull back n (within n 31 t))
+  pub seen-all : bitAnd s (2 ^ n - 1) ≡ 2 ^ n - 1 → T (sideFull back n (within n mostLinks t))
   unfolding sideFull
-  seen-all e = every-in (sidePair back (within n 31 t)) n (λ v h. up back n t v n32 h (m .sound v (all-out n s e v h)))
+  seen-all e = every-in (sidePair back (within n mostLinks t)) n (λ v h. up back n t v n32 h (m .sound v (all-out n s e v h)))
 
   -- it has all that there are
-  pub seen-end : 31 ≤ k → eqb (bitAnd s (2 ^ n - 1)) (2 ^ n - 1) ≡ sideFull back n (within n 31 t)
+  pub seen-end : mostLinks ≤ k → eqb (bitAnd s (2 ^ n - 1)) (2 ^ n - 1) ≡ sideFull back n (within n mostLinks t)
   unfolding sideFull
   seen-end l =
-      bool-ext (eqb (bitAnd s (2 ^ n - 1)) (2 ^ n - 1)) (sideFull back n (within n 31 t))
+      bool-ext (eqb (bitAnd s (2 ^ n - 1)) (2 ^ n - 1)) (sideFull back n (within n mostLinks t))
       (λ e. seen-all (eqb→eq (bitAnd s (2 ^ n - 1)) (2 ^ n - 1) e))
       (λ e. eq-refl (all-in n s (λ v h. ⊎-elim (λ (z : _≡_ {A = ℕ} 0 v). subst (λ (x : ℕ). T (bit s x)) z (m .first))
-      (λ (q : (c : ℕ) × (c ≤ 31) × Away back n t c v). m .far (q .0) v h (le-trans (q .1) l) (q .2))
-      (down back n t v n32 h (every-out (sidePair back (within n 31 t)) n e v h)))))
+      (λ (q : (c : ℕ) × (c ≤ mostLinks) × Away back n t c v). m .far (q .0) v h (le-trans (q .1) l) (q .2))
+      (down back n t v n32 h (every-out (sidePair back (within n mostLinks t)) n e v h)))))
 
 -- THEOREM. Links lead from every board to every other exactly when they lead from board 0 to all and from all to board 0.
-pub full-first : (n : ℕ) (t : List ℕ) → n ≤ 32 → full n (within n 31 t) ≡ sideFull false n (within n 31 t) && sideFull true n (within n 31 t)
+pub full-first : (n : ℕ) (t : List ℕ) → n ≤ 32
+    → full n (within n mostLinks t) ≡ sideFull false n (within n mostLinks t) && sideFull true n (within n mostLinks t)
 unfolding full rowFull sideFull
 full-first n t n32 =
     bool-ext (full n c) (sideFull false n c && sideFull true n c)
@@ -289,11 +287,11 @@ full-first n t n32 =
     (sideFull true n c) m) v hv))))
   where
     c : List ℕ
-    c = within n 31 t
+    c = within n mostLinks t
 
     both : (u v : ℕ) → u < n → v < n → T (pairFull c u 0) → T (pairFull c 0 v) → T (pairFull c u v)
     both u v hu hv a b =
         ⊎-elim (λ (e : u ≡ 0). subst (λ (x : ℕ). T (pairFull c x v)) (sym e) b)
-        (λ (p : Short n 31 t u 0). ⊎-elim (λ (e : _≡_ {A = ℕ} 0 v). subst (λ (x : ℕ). T (pairFull c u x)) e a)
-        (λ (q : Short n 31 t 0 v). pair-in n t u v n32 hu hv (onward (p .2) (omega arith) (q .0, q .2))) (pair-out n t 0 v n32 (omega arith) hv b))
+        (λ (p : Short n mostLinks t u 0). ⊎-elim (λ (e : _≡_ {A = ℕ} 0 v). subst (λ (x : ℕ). T (pairFull c u x)) e a)
+        (λ (q : Short n mostLinks t 0 v). pair-in n t u v n32 hu hv (onward (p .2) (omega arith) (q .0, q .2))) (pair-out n t 0 v n32 (omega arith) hv b))
         (pair-out n t u 0 n32 hu (omega arith) a)

@@ -1,29 +1,19 @@
 // Whether boards reach each other: the tests of measures 3 and 1 on a table of links between n boards, 2 to 32. Words are taken as they are found.
 ghost use mathlib.Core.Path.{_≡_};
 ghost use mathlib.Core.Bool.{true, false};
-ghost use Prim.Native.Nat.{_-_, _^_, _≤_, _<_};
+ghost use Prim.Native.Nat.{_≤_, _<_};
 ghost use lib.ListN.{length};
+ghost use Rattle.model.specs.Journey.{mostLinks};
 ghost use Rattle.links.specs.Tables.{within, full, connected};
 ghost use Rattle.searches.specs.Search.{leading, collect, sideFull};
 use model::Board;
-
-// The word of the bits below n.
-pub fn low_bits(n: usize) -> u32
-    requires { ⌜ n ≤ 32 ⌝ }
-    ensures { λ r. ⌜ r ≡ 2 ^ n - 1 ⌝ }
-{
-    if n == 0 {
-        return 0;
-    }
-    !0u32 >> (32 - n)
-}
 
 // Whether every ordered pair of different boards is marked: a row and its own bit have the bits of all boards.
 pub fn is_full(t: &[u32], n: usize) -> bool
     requires { ⌜ (n ≤ 32) × (n ≤ length (now t)) ⌝ }
     ensures { λ r. ⌜ r ≡ full n (now (t .entry)) ⌝ }
 {
-    let all = low_bits(n);
+    let all = links::low_bits(n);
     for u in 0..n {
         if (t[u] | (1u32 << u)) & all != all {
             return false;
@@ -38,9 +28,9 @@ pub fn is_full(t: &[u32], n: usize) -> bool
 // boards or has followed the links of all that it has.
 fn reaches_all(t: &[u32], n: usize) -> bool
     requires { ⌜ (n ≤ 32) × (n ≤ length (now t)) ⌝ }
-    ensures { λ r. ⌜ r ≡ sideFull false n (within n 31 (now (t .entry))) ⌝ }
+    ensures { λ r. ⌜ r ≡ sideFull false n (within n mostLinks (now (t .entry))) ⌝ }
 {
-    let all = low_bits(n);
+    let all = links::low_bits(n);
     let mut s = 1u32;
     let mut rest = all;
     while s & rest != 0 {
@@ -78,9 +68,9 @@ fn backward(t: &[u32], seen: u32, n: usize) -> u32
 // Whether links lead from every other board to board 0. The search ends when it has all boards or a turn finds no more; 32 turns are enough.
 fn all_reach(t: &[u32], n: usize) -> bool
     requires { ⌜ (n ≤ 32) × (n ≤ length (now t)) ⌝ }
-    ensures { λ r. ⌜ r ≡ sideFull true n (within n 31 (now (t .entry))) ⌝ }
+    ensures { λ r. ⌜ r ≡ sideFull true n (within n mostLinks (now (t .entry))) ⌝ }
 {
-    let all = low_bits(n);
+    let all = links::low_bits(n);
     let mut s = 1u32;
     for k in 0..32usize {
         if s & all == all {

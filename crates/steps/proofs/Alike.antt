@@ -13,11 +13,12 @@ use Rattle.model.specs.Journey.{val}
 use Rattle.model.proofs.Logic.{eq-or}
 use Rattle.lists.specs.Tab.{zeros}
 use Rattle.lists.proofs.Tab.{length-zeros}
-use Rattle.measures.specs.Kit.{Kit, widthOf}
-use Rattle.area.specs.Parts.{part, putPart, composeAt, copyAt, zeroAt, ownAt}
-use Rattle.area.proofs.Laws.{put-length, put-same, put-other, length-part, Wide, kit-wide, own-wide}
+use Rattle.measures.specs.Kit.{Kit, hops01, Wide}
+use Rattle.area.specs.Parts.{stored, table, partSize, tableAt, putPart, putTable, composeAt, copyAt, zeroAt, ownAt}
+use Rattle.area.proofs.Stored.{stored-size}
+use Rattle.area.proofs.Laws.{put-length, put-same, put-other, table-long, table-same, table-other, kit-wide, own-wide}
 use Rattle.place.specs.declared.Place.{Place}
-use Rattle.place.proofs.Laws.{and-left, and-right, and-both}
+use Rattle.place.proofs.Laws.{and-left, and-right, and-true}
 use Rattle.place.specs.Places.{picksTaken, startMoved, boundaryMoved, charged, tested}
 use Rattle.steps.specs.Walk.{State, state, kitOf, ladder, rebuilt, more, joinedArea, joined, far, extendedBy, extended, written, entered}
 use Rattle.steps.specs.Walk.{onLeft, onRight, windowArea, windowed, judged, tried, cleared, minStep}
@@ -33,9 +34,9 @@ StillAlike p a b = finished p ≡ false → Alike p a b
 
 -- the table of the window s to m, read off the ladders: what a test writes to part limit + 2
 unfoldable pub windowTable : Kit → Bool → Bool → Place → List ℕ → List ℕ
-windowTable K true true p a = K .join (part (K .width) a (p .window .start .0)) (part (K .width) a (p .settings .limit + 1))
-windowTable K true false p a = part (K .width) a (p .window .start .0)
-windowTable K false y p a = part (K .width) a (p .settings .limit + 1)
+windowTable K true true p a = K .join (tableAt K a (p .window .start .0)) (tableAt K a (p .settings .limit + 1))
+windowTable K true false p a = tableAt K a (p .window .start .0)
+windowTable K false y p a = tableAt K a (p .settings .limit + 1)
 
 -- from two areas the step f comes to one place, and to areas that are alike there
 abbrev pub Agrees : (State → State) → Place → List ℕ → List ℕ → Type 0
@@ -45,11 +46,11 @@ Agrees f p a b = (f (state p a) .place ≡ f (state p b) .place) × Alike (f (st
 
 -- Two areas with room for limit + 4 parts that are the same in parts 1 to m, in part limit + 1 where r is 1 or more, and in part limit + 3.
 record Same (K : Kit) (limit m r : ℕ) (a b : List ℕ) : Type 0 where
-  first : (limit + 4) * K .width ≤ length a
-  second : (limit + 4) * K .width ≤ length b
-  picks : (i : ℕ) → 1 ≤ i → i ≤ m → part (K .width) a i ≡ part (K .width) b i
-  right : 1 ≤ r → part (K .width) a (limit + 1) ≡ part (K .width) b (limit + 1)
-  footprint : part (K .width) a (limit + 3) ≡ part (K .width) b (limit + 3)
+  first : (limit + 4) * partSize K ≤ length a
+  second : (limit + 4) * partSize K ≤ length b
+  picks : (i : ℕ) → 1 ≤ i → i ≤ m → tableAt K a i ≡ tableAt K b i
+  right : 1 ≤ r → tableAt K a (limit + 1) ≡ tableAt K b (limit + 1)
+  footprint : tableAt K a (limit + 3) ≡ tableAt K b (limit + 3)
 
 -- one of the limit + 4 parts, and not the footprint's
 record Free (limit d : ℕ) : Type 0 where
@@ -61,30 +62,31 @@ record Free (limit d : ℕ) : Type 0 where
 free : {limit d : ℕ} → 1 ≤ d → d ≤ limit + 2 → Free limit d
 free l h = record { low = l; high = omega arith; apart = λ e. omega arith }
 
--- One table put as part d of two areas: part j is the same in both where it is part d, or was the same.
-put-both : (E N : ℕ) (a b : List ℕ) → N * E ≤ length a → N * E ≤ length b → (d : ℕ) → 1 ≤ d → d ≤ N → (t : List ℕ)
-    → length t ≡ E
-    → (j : ℕ) → 1 ≤ j → (j ≢ d → part E a j ≡ part E b j) → part E (putPart E a d t) j ≡ part E (putPart E b d t) j
-put-both E N a b f g d low high t size j h e =
+-- The same words put as part d of two areas: the table of part j is the same in both where it is part d, or was the same.
+put-both : (K : Kit) (N : ℕ) (a b : List ℕ) → N * partSize K ≤ length a → N * partSize K ≤ length b → (d : ℕ) → 1 ≤ d → d ≤ N → (t : List ℕ)
+    → length t ≡ partSize K
+    → (j : ℕ) → 1 ≤ j → (j ≢ d → tableAt K a j ≡ tableAt K b j) → tableAt K (putPart (partSize K) a d t) j ≡ tableAt K (putPart (partSize K) b d t) j
+put-both K N a b f g d low high t size j h e =
+    let E = partSize K in
     let same = put-same E N a f d low high t size ∙ sym (put-same E N b g d low high t size) in
-    ⊎-elim (λ (q : j ≡ d). subst (λ (i : ℕ). part E (putPart E a d t) i ≡ part E (putPart E b d t) i) (sym q) same)
-    (λ (q : j ≢ d). put-other E N a f d low high t size j h q ∙ e q ∙ sym (put-other E N b g d low high t size j h q))
+    ⊎-elim (λ (q : j ≡ d). subst (λ (i : ℕ). tableAt K (putPart E a d t) i ≡ tableAt K (putPart E b d t) i) (sym q) (ap (table (K .size)) same))
+    (λ (q : j ≢ d). ap (table (K .size)) (put-other E N a f d low high t size j h q) ∙ e q
+    ∙ sym (ap (table (K .size)) (put-other E N b g d low high t size j h q)))
     (eq-or j d)
 
--- A table put as part d of both: the parts that are the same are those from before, and part d.
+-- So the tables that are the same are those from before, and that of part d.
 put-like : {K : Kit} {limit m r : ℕ} {a b : List ℕ} → Same K limit m r a b → (d : ℕ) → Free limit d → (t u : List ℕ)
-    → length t ≡ K .width → t ≡ u
+    → length t ≡ partSize K → t ≡ u
     → (n x : ℕ) → ((i : ℕ) → i ≤ n → i ≢ d → i ≤ m) → (1 ≤ x → limit + 1 ≢ d → 1 ≤ r)
-    → Same K limit n x (putPart (K .width) a d t) (putPart (K .width) b d u)
+    → Same K limit n x (putPart (partSize K) a d t) (putPart (partSize K) b d u)
 put-like {K} {limit} {m} {r} {a} {b} s d o t u size e n x f g =
-    let E = K .width in
     let N = limit + 4 in
     let sa = s .first in
     let sb = s .second in
-    let la = put-length E N a sa d (o .low) (o .high) t size in
-    let lb = put-length E N b sb d (o .low) (o .high) t size in
-    let both = put-both E N a b sa sb d (o .low) (o .high) t size in
-    subst (λ (v : List ℕ). Same K limit n x (putPart (K .width) a d t) (putPart (K .width) b d v)) e
+    let la = put-length (partSize K) N a sa d (o .low) (o .high) t size in
+    let lb = put-length (partSize K) N b sb d (o .low) (o .high) t size in
+    let both = put-both K N a b sa sb d (o .low) (o .high) t size in
+    subst (λ (v : List ℕ). Same K limit n x (putPart (partSize K) a d t) (putPart (partSize K) b d v)) e
     (record {
       first = omega arith;
       second = omega arith;
@@ -93,28 +95,35 @@ put-like {K} {limit} {m} {r} {a} {b} s d o t u size e n x f g =
       footprint = both (limit + 3) (omega arith) (λ q. s .footprint);
     })
 
+-- a table put as part d of both
+table-like : {K : Kit} {limit m r : ℕ} {a b : List ℕ} → Same K limit m r a b → (d : ℕ) → Free limit d → (t u : List ℕ)
+    → length t ≡ K .size → t ≡ u
+    → (n x : ℕ) → ((i : ℕ) → i ≤ n → i ≢ d → i ≤ m) → (1 ≤ x → limit + 1 ≢ d → 1 ≤ r)
+    → Same K limit n x (putTable K a d t) (putTable K b d u)
+table-like {K} s d o t u size e = put-like s d o (stored K t) (stored K u) (stored-size K t size) (ap (stored K) e)
+
 module _ (K : Kit) (wide : Wide K) where
   -- parts i and j, the same in both, composed into part d
   compose-like : {limit m r : ℕ} {a b : List ℕ} → Same K limit m r a b → (d : ℕ) → Free limit d → (i j : ℕ)
-      → part (K .width) a i ≡ part (K .width) b i
-      → part (K .width) a j ≡ part (K .width) b j → (x : ℕ) → (1 ≤ x → limit + 1 ≢ d → 1 ≤ r)
+      → tableAt K a i ≡ tableAt K b i
+      → tableAt K a j ≡ tableAt K b j → (x : ℕ) → (1 ≤ x → limit + 1 ≢ d → 1 ≤ r)
       → Same K limit m x (composeAt K a d i j) (composeAt K b d i j)
   unfolding composeAt
-  compose-like {limit} {m} s d o i j e g x = put-like s d o _ _ (wide _ _) (ap₂ (K .join) e g) m x (λ k l q. l)
+  compose-like {limit} {m} s d o i j e g x = table-like s d o _ _ (wide _ _) (ap₂ (K .join) e g) m x (λ k l q. l)
 
   -- part i, the same in both, copied to part d
   copy-like : {limit m r : ℕ} {a b : List ℕ} → Same K limit m r a b → (d : ℕ) → Free limit d → (i : ℕ) → 1 ≤ i → i ≤ limit + 4
-      → part (K .width) a i ≡ part (K .width) b i → (x : ℕ) → (1 ≤ x → limit + 1 ≢ d → 1 ≤ r)
+      → tableAt K a i ≡ tableAt K b i → (x : ℕ) → (1 ≤ x → limit + 1 ≢ d → 1 ≤ r)
       → Same K limit m x (copyAt K a d i) (copyAt K b d i)
   unfolding copyAt
-  copy-like {limit} {m} {r} {a} s d o i l h e x = put-like s d o _ _ (length-part (K .width) (limit + 4) a i (s .first) l h) e m x (λ k z q. z)
+  copy-like {limit} {m} {r} {a} s d o i l h e x = table-like s d o _ _ (table-long K (limit + 4) a (s .first) i l h) e m x (λ k z q. z)
 
   -- part d set to zero
   zero-like : {limit m r : ℕ} {a b : List ℕ} → Same K limit m r a b → (d : ℕ) → Free limit d → (x : ℕ) →
       (1 ≤ x → limit + 1 ≢ d → 1 ≤ r)
       → Same K limit m x (zeroAt K a d) (zeroAt K b d)
   unfolding zeroAt
-  zero-like {limit} {m} s d o x = put-like s d o _ _ (length-zeros (K .width)) refl m x (λ k l q. l)
+  zero-like {limit} {m} s d o x = put-like s d o _ _ (length-zeros (partSize K)) refl m x (λ k l q. l)
 
   -- the left ladder over parts that are the same
   ladder-like : {limit m r : ℕ} {a b : List ℕ} → Same K limit m r a b → m ≤ limit → (k : ℕ) → k ≤ m - 1
@@ -150,20 +159,20 @@ module _ (K : Kit) (wide : Wide K) where
   -- ---- the window
 
   -- a window is written to its part and to no other
-  window-put : (x y : Bool) (p : Place) (a : List ℕ) → windowArea K x y p a ≡ putPart (K .width) a (p .settings .limit + 2) (windowTable K x y p a)
+  window-put : (x y : Bool) (p : Place) (a : List ℕ) → windowArea K x y p a ≡ putTable K a (p .settings .limit + 2) (windowTable K x y p a)
   unfolding windowArea windowTable composeAt copyAt
   window-put true true p a = refl
   window-put true false p a = refl
   window-put false y p a = refl
 
-  -- its table has the words of the kit
-  window-wide : (x y : Bool) (p : Place) (a : List ℕ) → (p .settings .limit + 4) * K .width ≤ length a → 1 ≤ p .window .start .0
+  -- its table has the size of the kit's
+  window-wide : (x y : Bool) (p : Place) (a : List ℕ) → (p .settings .limit + 4) * partSize K ≤ length a → 1 ≤ p .window .start .0
       → p .window .start .0 ≤ p .settings .limit
-      → length (windowTable K x y p a) ≡ K .width
+      → length (windowTable K x y p a) ≡ K .size
   unfolding windowTable
   window-wide true true p a room low high = wide _ _
-  window-wide true false p a room low high = length-part (K .width) (p .settings .limit + 4) a (p .window .start .0) room low (omega arith)
-  window-wide false y p a room low high = length-part (K .width) (p .settings .limit + 4) a (p .settings .limit + 1) room (omega arith) (omega arith)
+  window-wide true false p a room low high = table-long K (p .settings .limit + 4) a room (p .window .start .0) low (omega arith)
+  window-wide false y p a room low high = table-long K (p .settings .limit + 4) a room (p .settings .limit + 1) (omega arith) (omega arith)
 
   -- and is the same from areas that are the same where it is read
   window-like : (x y : Bool) (p : Place) {m r : ℕ} {a b : List ℕ} → Same K (p .settings .limit) m r a b → 1 ≤ r → 1 ≤ p .window .start .0
@@ -182,34 +191,33 @@ module _ (K : Kit) (wide : Wide K) where
   tried-like x y p {a} {b} s low high top =
       let m = p .window .taken .0 in
       rw (window-put x y p a, window-put x y p b)
-      (put-like s (p .settings .limit + 2) (free (omega arith) (omega arith)) _ _ (window-wide x y p a (s .first) low (omega arith))
+      (table-like s (p .settings .limit + 2) (free (omega arith) (omega arith)) _ _ (window-wide x y p a (s .first) low (omega arith))
       (window-like x y p s (omega arith) low high) m m (λ i l e. l) (λ l e. l))
 
   -- the place after a test, from the footprint and the ladders
-  tried-place : (p : Place) (a : List ℕ) → (p .settings .limit + 4) * K .width ≤ length a → 1 ≤ p .window .start .0
+  tried-place : (p : Place) (a : List ℕ) → (p .settings .limit + 4) * partSize K ≤ length a → 1 ≤ p .window .start .0
       → p .window .start .0 ≤ p .settings .limit
       → tried K (state p a) .place
-      ≡ tested (charged p (val (onLeft p && onRight p))) (K .pass (part (K .width) a (p .settings .limit + 3)) (windowTable K (onLeft p) (onRight p) p a))
+      ≡ tested (charged p (val (onLeft p && onRight p))) (K .pass (tableAt K a (p .settings .limit + 3)) (windowTable K (onLeft p) (onRight p) p a))
   unfolding tried judged windowed charged
   tried-place p a room low high =
-      let E = K .width in
       let N = p .settings .limit + 4 in
       let d = p .settings .limit + 2 in
       let x = onLeft p in
       let y = onRight p in
       let t = windowTable K x y p a in
       let size = window-wide x y p a room low high in
-      let other = put-other E N a room d (omega arith) (omega arith) t size (p .settings .limit + 3) (omega arith) (λ e. omega arith) in
-      let same = put-same E N a room d (omega arith) (omega arith) t size in
+      let other = table-other K N a room d (omega arith) (omega arith) t size (p .settings .limit + 3) (omega arith) (λ e. omega arith) in
+      let same = table-same K N a room d (omega arith) (omega arith) t size in
       ap (tested (charged p (val (x && y))))
-      (ap₂ (K .pass) (ap (λ (b : List ℕ). part E b (p .settings .limit + 3)) (window-put x y p a)
-      ∙ other) (ap (λ (b : List ℕ). part E b d) (window-put x y p a) ∙ same))
+      (ap₂ (K .pass) (ap (λ (b : List ℕ). tableAt K b (p .settings .limit + 3)) (window-put x y p a)
+      ∙ ap (table (K .size)) other) (ap (λ (b : List ℕ). tableAt K b d) (window-put x y p a) ∙ same))
 
 -- ---- states of one place
 
--- at the place p, whose tables have the words of the kit
+-- at the place p, whose kit it is
 record Level (K : Kit) (p : Place) (a b : List ℕ) : Type 0 where
-  width : K .width ≡ kitOf (p .settings) .width
+  kit : K ≡ kitOf (p .settings)
   area : Same K (p .settings .limit) (p .window .taken .0) (p .window .taken .0) a b
 
 -- two states at the same place
@@ -228,24 +236,24 @@ choice false t u = u
 
 module _ (K : Kit) (wide : Wide K) where
   -- the ladders take in pick m, which is written; the right ladder is known where it held picks before
-  extended-twin : (x : Bool) (p : Place) {a b : List ℕ} (r : ℕ) → K .width ≡ kitOf (p .settings) .width
+  extended-twin : (x : Bool) (p : Place) {a b : List ℕ} (r : ℕ) → K ≡ kitOf (p .settings)
       → Same K (p .settings .limit) (p .window .taken .0) r a b
       → 1 ≤ p .window .start .0 → 1 ≤ p .window .taken .0 → p .window .taken .0 ≤ p .settings .limit → (T (more p) → 1 ≤ r)
       → Twin K (extendedBy K x (state p a)) (extendedBy K x (state p b))
   unfolding extendedBy rebuilt joined charged boundaryMoved
-  extended-twin true p r e s low some top h = record { place = refl; level = record { width = e; area = rebuilt-like K wide s top (p .window .start .0) low } }
-  extended-twin false p r e s low some top h = record { place = refl; level = record { width = e; area = joined-like K wide (more p) p r s some top h } }
+  extended-twin true p r e s low some top h = record { place = refl; level = record { kit = e; area = rebuilt-like K wide s top (p .window .start .0) low } }
+  extended-twin false p r e s low some top h = record { place = refl; level = record { kit = e; area = joined-like K wide (more p) p r s some top h } }
 
   -- a pick taken, its part and the ladders
   entered-twin : (k : ℕ) (w : List ℕ) (p : Place) {a b : List ℕ} → Level K p a b → 1 ≤ p .window .start .0
       → p .window .taken .0 + 1 ≤ p .settings .limit
-      → length (K .own (p .window .taken .0 + 1) w) ≡ K .width → Twin K (entered K k w (state p a)) (entered K k w (state p b))
+      → length (K .own (p .window .taken .0 + 1) w) ≡ K .size → Twin K (entered K k w (state p a)) (entered K k w (state p b))
   unfolding entered extended written startMoved picksTaken ownAt
   entered-twin k w p {a} {b} s low top size =
       let m = p .window .taken .0 in
       let t = K .own (m + 1) w in
-      extended-twin (ltb (p .window .boundary .0 + 1) (p .window .start .0 + k)) (startMoved (picksTaken p 1) k) m (s .width)
-      (put-like (s .area) (m + 1) (free (omega arith) (omega arith)) t t size refl (m + 1) m (λ i l q. omega arith) (λ l q. l))
+      extended-twin (ltb (p .window .boundary .0 + 1) (p .window .start .0 + k)) (startMoved (picksTaken p 1) k) m (s .kit)
+      (table-like (s .area) (m + 1) (free (omega arith) (omega arith)) t t size refl (m + 1) m (λ i l q. omega arith) (λ l q. l))
       (omega arith) (omega arith) top (λ h. let l = ltb→lt (p .window .boundary .0 + 1) (m + 1) h in omega arith)
 
   -- one test
@@ -260,7 +268,7 @@ module _ (K : Kit) (wide : Wide K) where
         place = tried-place K wide p a (x .first) low (omega arith)
             ∙ ap (tested (charged p (val (onLeft p && onRight p)))) same
             ∙ sym (tried-place K wide p b (x .second) low (omega arith));
-        level = record { width = s .width; area = tried-like K wide (onLeft p) (onRight p) p x low high top };
+        level = record { kit = s .kit; area = tried-like K wide (onLeft p) (onRight p) p x low high top };
       }
 
   -- the left ladder built at a rise, or not
@@ -268,8 +276,8 @@ module _ (K : Kit) (wide : Wide K) where
       → Twin K (raisedBy K x (state (startMoved p 1) a)) (raisedBy K x (state (startMoved p 1) b))
   unfolding raisedBy rebuilt charged boundaryMoved startMoved
   raised-by true p s top =
-      record { place = refl; level = record { width = s .width; area = rebuilt-like K wide (s .area) top (p .window .start .0 + 1) (omega arith) } }
-  raised-by false p s top = record { place = refl; level = record { width = s .width; area = s .area } }
+      record { place = refl; level = record { kit = s .kit; area = rebuilt-like K wide (s .area) top (p .window .start .0 + 1) (omega arith) } }
+  raised-by false p s top = record { place = refl; level = record { kit = s .kit; area = s .area } }
 
   -- a rise
   raised-twin : (p : Place) {a b : List ℕ} → Level K p a b → p .window .taken .0 ≤ p .settings .limit
@@ -316,7 +324,7 @@ module _ (K : Kit) (wide : Wide K) where
   cleared-twin p s = record {
     place = refl;
     level = record {
-      width = s .width;
+      kit = s .kit;
       area = zero-like K wide (s .area) (p .settings .limit + 4) (record { low = omega arith; high = omega arith; apart = λ e. omega arith })
           (p .window .taken .0) (λ l e. l);
     };
@@ -326,7 +334,7 @@ module _ (K : Kit) (wide : Wide K) where
 
   module _ (w : List ℕ) (p : Place) (a b : List ℕ) (s : Level K p a b) (low : 1 ≤ p .window .start .0)
       (top : p .window .taken .0 + 1 ≤ p .settings .limit)
-      (size : length (K .own (p .window .taken .0 + 1) w) ≡ K .width) where
+      (size : length (K .own (p .window .taken .0 + 1) w) ≡ K .size) where
     -- a pick taken and tested once
     first-twin : (k : ℕ) → p .window .start .0 + k ≤ p .window .taken .0 + 1
         → Twin K (tried K (entered K k w (state p a))) (tried K (entered K k w (state p b)))
@@ -408,29 +416,31 @@ alike-at e h x = record {
 
 -- with no pick taken, areas with the same footprint are alike
 pub alike-fresh : (p : Place) (a b : List ℕ) → p .window .taken .0 ≡ 0
-    → part (kitOf (p .settings) .width) a (p .settings .limit + 3) ≡ part (kitOf (p .settings) .width) b (p .settings .limit + 3) → Alike p a b
+    → tableAt (kitOf (p .settings)) a (p .settings .limit + 3) ≡ tableAt (kitOf (p .settings)) b (p .settings .limit + 3) → Alike p a b
 alike-fresh p a b e f = record { picks = λ i l h. absurd (omega arith); right = λ h. absurd (omega arith); footprint = f }
 
 -- ---- what is not told
 
--- a table written to a part beyond the right ladder's, and not to the footprint's
+-- words written to a part beyond the right ladder's, and not to the footprint's
 put-unread : (p : Place) (a t : List ℕ) (d : ℕ) → Able (p .settings) (length a) → p .window .taken .0 ≤ p .settings .limit
-    → length t ≡ kitOf (p .settings) .width
+    → length t ≡ partSize (kitOf (p .settings))
     → p .settings .limit + 2 ≤ d → d ≤ p .settings .limit + 4 → p .settings .limit + 3 ≢ d
-    → Alike p (putPart (kitOf (p .settings) .width) a d t) a
+    → Alike p (putPart (partSize (kitOf (p .settings))) a d t) a
 put-unread p a t d h top size low high apart =
-    let other = put-other (kitOf (p .settings) .width) (p .settings .limit + 4) a (h .room) d (omega arith) high t size in
+    let K = kitOf (p .settings) in
+    let other = put-other (partSize K) (p .settings .limit + 4) a (h .room) d (omega arith) high t size in
     record {
-      picks = λ i l k. other i l (λ e. omega arith);
-      right = λ k. other (p .settings .limit + 1) (omega arith) (λ e. omega arith);
-      footprint = other (p .settings .limit + 3) (omega arith) apart;
+      picks = λ i l k. ap (table (K .size)) (other i l (λ e. omega arith));
+      right = λ k. ap (table (K .size)) (other (p .settings .limit + 1) (omega arith) (λ e. omega arith));
+      footprint = ap (table (K .size)) (other (p .settings .limit + 3) (omega arith) apart);
     }
 
 -- what is written to the window's part is not told
 pub alike-window : (p : Place) (a t : List ℕ) → Able (p .settings) (length a) → p .window .taken .0 ≤ p .settings .limit
-    → length t ≡ kitOf (p .settings) .width
-    → Alike p (putPart (kitOf (p .settings) .width) a (p .settings .limit + 2) t) a
-alike-window p a t h top size = put-unread p a t (p .settings .limit + 2) h top size (omega arith) (omega arith) (λ e. omega arith)
+    → length t ≡ kitOf (p .settings) .size
+    → Alike p (putTable (kitOf (p .settings)) a (p .settings .limit + 2) t) a
+alike-window p a t h top size =
+    put-unread p a _ (p .settings .limit + 2) h top (stored-size (kitOf (p .settings)) t size) (omega arith) (omega arith) (λ e. omega arith)
 
 -- and so the window itself
 pub alike-windowed : (p : Place) (a : List ℕ) {d : ℕ} → Fit p (length a) d → Alike p (windowed (kitOf (p .settings)) (state p a) .area) a
@@ -454,7 +464,7 @@ alike-tested p a f = alike-windowed p a f
 pub tried-reads : (p : Place) (a : List ℕ) {d : ℕ} → Fit p (length a) d
     → tried (kitOf (p .settings)) (state p a) .place
     ≡ tested (charged p (val (onLeft p && onRight p)))
-    (kitOf (p .settings) .pass (part (kitOf (p .settings) .width) a (p .settings .limit + 3)) (windowTable (kitOf (p .settings)) (onLeft p) (onRight p) p a))
+    (kitOf (p .settings) .pass (tableAt (kitOf (p .settings)) a (p .settings .limit + 3)) (windowTable (kitOf (p .settings)) (onLeft p) (onRight p) p a))
 tried-reads p a f =
     let i = f .inside in
     let top = f .top in
@@ -465,7 +475,7 @@ pub alike-spare : (p : Place) (a : List ℕ) → Able (p .settings) (length a) �
     → Alike p (zeroAt (kitOf (p .settings)) a (p .settings .limit + 4)) a
 unfolding zeroAt
 alike-spare p a h top =
-    let E = kitOf (p .settings) .width in
+    let E = partSize (kitOf (p .settings)) in
     put-unread p a (zeros E) (p .settings .limit + 4) h top (length-zeros E) (omega arith) (omega arith) (λ e. omega arith)
 
 -- and so its clearing after a pick
@@ -480,21 +490,21 @@ alike-cleared p a h top = alike-spare p a h top
 from-alike : (p : Place) {a b : List ℕ} → Able (p .settings) (length a) → Able (p .settings) (length b) → Alike p a b
     → Level (kitOf (p .settings)) p a b
 from-alike p f g x = record {
-  width = refl;
+  kit = refl;
   area = record { first = f .room; second = g .room; picks = x .picks; right = x .right; footprint = x .footprint };
 }
 
 -- and back, at the place that a step came to
 to-alike : {K : Kit} {st q : State} → Twin K st q → (st .place ≡ q .place) × Alike (st .place) (st .area) (q .area)
 to-alike {K} {st} {q} t =
-    let e = t .level .width in
+    let e = t .level .kit in
     let s = t .level .area in (
       t .place,
       record {
-        picks = λ i l h. subst (λ (E : ℕ). part E (st .area) i ≡ part E (q .area) i) e (s .picks i l h);
-        right = λ h. subst (λ (E : ℕ). part E (st .area) (st .place .settings .limit + 1) ≡ part E (q .area) (st .place .settings .limit + 1)) e
+        picks = λ i l h. subst (λ (L : Kit). tableAt L (st .area) i ≡ tableAt L (q .area) i) e (s .picks i l h);
+        right = λ h. subst (λ (L : Kit). tableAt L (st .area) (st .place .settings .limit + 1) ≡ tableAt L (q .area) (st .place .settings .limit + 1)) e
             (s .right h);
-        footprint = subst (λ (E : ℕ). part E (st .area) (st .place .settings .limit + 3) ≡ part E (q .area) (st .place .settings .limit + 3)) e
+        footprint = subst (λ (L : Kit). tableAt L (st .area) (st .place .settings .limit + 3) ≡ tableAt L (q .area) (st .place .settings .limit + 3)) e
             (s .footprint);
       },
     )
@@ -505,7 +515,7 @@ pub alike-going : (p : Place) (w a b : List ℕ) → Takes p (length a) (length 
 alike-going p w a b f g z x =
     to-alike (stepped-twin (kitOf (p .settings)) (kit-wide (p .settings .measure) (p .settings .boards)) w p a b (from-alike p (f .passed .able)
     (g .passed .able) x) (f .passed .start)
-    (f .passed .top) (own-wide 31 (p .settings .measure) (p .settings .boards) (p .window .taken .0 + 1) w (sym (f .shape))) z (f .failed .ahead)
+    (f .passed .top) (own-wide hops01 (p .settings .measure) (p .settings .boards) (p .window .taken .0 + 1) w (sym (f .shape))) z (f .failed .ahead)
     (f .passed .ahead))
 
 -- after the end of measure 1 a pick raises m only
@@ -518,8 +528,8 @@ pub finished-stays : (p : Place) → finished p ≡ true → finished (picksTake
 unfolding picksTaken
 finished-stays p z =
     let e = and-right (eqb (p .settings .measure) 1) (ended p) z in
-    and-both (and-left (eqb (p .settings .measure) 1) (ended p) z)
-    (and-both (lt-ltb 0 (p .window .taken .0 + 1) (omega arith)) (and-right (ltb 0 (p .window .taken .0)) (not (p .marks .passed)) e))
+    and-true (and-left (eqb (p .settings .measure) 1) (ended p) z)
+    (and-true (lt-ltb 0 (p .window .taken .0 + 1) (omega arith)) (and-right (ltb 0 (p .window .taken .0)) (not (p .marks .passed)) e))
 
 -- A STEP OF A WALK: from areas that are alike for as long as it reads them it comes to one place, and to such areas.
 pub alike-stepped : (p : Place) (w a b : List ℕ) → Takes p (length a) (length w) → Takes p (length b) (length w) → StillAlike p a b

@@ -7,7 +7,8 @@ use mathlib.Core.List.{List}
 use lib.ListN.{length, drop}
 use borrow.Author.Tests.{ne-eqb}
 use Rattle.model.specs.Journey.{val}
-use Rattle.measures.specs.Kit.{kit, widthOf}
+use Rattle.measures.specs.Kit.{hops01, kit}
+use Rattle.area.specs.Parts.{partSize}
 use Rattle.area.proofs.Laws.{kit-wide, own-wide}
 use Rattle.place.specs.declared.Settings.{Settings}
 use Rattle.place.specs.declared.Place.{Place}
@@ -19,7 +20,8 @@ use Rattle.steps.specs.Bare.{composes, bareTried, spared, bareStep}
 use Rattle.steps.proofs.Fit.{limit-of, able-kept}
 use Rattle.steps.proofs.Grown.{entered-grown, tried-grown, enter-tries}
 use Rattle.steps.proofs.Closes.{spared-other}
-use Rattle.steps.proofs.Frames.{cond-ind, Frame, frame-room, then, weaker, entered-frame, tried-frame, stepped-frame}
+use Rattle.model.proofs.Logic.{cond-ind}
+use Rattle.steps.proofs.Frames.{Frame, frame-room, then, weaker, entered-frame, tried-frame, stepped-frame}
 use Rattle.steps.proofs.Alike.{StillAlike, alike-refl, alike-sym, alike-trans, alike-at, alike-tested, alike-cleared, alike-stepped}
 
 -- ---- by the measure
@@ -77,16 +79,16 @@ cleared-as p q b e f top = subst (λ (s : Settings). Alike q (cleared (kitOf s) 
 abbrev Kept : Place → List ℕ → List ℕ → Type 0
 Kept p a b =
     (length b ≡ length a)
-    × (drop ((p .settings .limit + 4) * kitOf (p .settings) .width) b ≡ drop ((p .settings .limit + 4) * kitOf (p .settings) .width) a)
+    × (drop ((p .settings .limit + 4) * partSize (kitOf (p .settings))) b ≡ drop ((p .settings .limit + 4) * partSize (kitOf (p .settings))) a)
 
 -- what a frame keeps
 frame-kept : (p : Place) (a : List ℕ) {q : State} {Out : ℕ → Type 0} → Frame (kitOf (p .settings)) (state p a) q Out → Kept p a (q .area)
 frame-kept p a f = (f .size, f .beyond)
 
 module _ (p : Place) (w a : List ℕ) (t : Takes p (length a) (length w)) where
-  -- the pick's own table has the words of a part
-  own-size : length (kitOf (p .settings) .own (p .window .taken .0 + 1) w) ≡ kitOf (p .settings) .width
-  own-size = own-wide 31 (p .settings .measure) (p .settings .boards) (p .window .taken .0 + 1) w (sym (t .shape))
+  -- the pick's own table has the words of a table
+  own-size : length (kitOf (p .settings) .own (p .window .taken .0 + 1) w) ≡ kitOf (p .settings) .size
+  own-size = own-wide hops01 (p .settings .measure) (p .settings .boards) (p .window .taken .0 + 1) w (sym (t .shape))
 
   -- the pick entered
   entered-none : Frame (kitOf (p .settings)) (state p a) (entered (kitOf (p .settings)) (val (p .marks .passed)) w (state p a)) (λ (j : ℕ). ⊥)
@@ -197,8 +199,8 @@ stepped-kept p w a t =
 -- A bare step keeps the length of the area, and the words beyond its limit + 4 parts.
 pub bare-frame : (p : Place) (w a : List ℕ) → Takes p (length a) (length w)
     → (length (bareStep (kitOf (p .settings)) w (state p a) .area) ≡ length a)
-    × (drop ((p .settings .limit + 4) * kitOf (p .settings) .width) (bareStep (kitOf (p .settings)) w (state p a) .area)
-    ≡ drop ((p .settings .limit + 4) * kitOf (p .settings) .width) a)
+    × (drop ((p .settings .limit + 4) * partSize (kitOf (p .settings))) (bareStep (kitOf (p .settings)) w (state p a) .area)
+    ≡ drop ((p .settings .limit + 4) * partSize (kitOf (p .settings))) a)
 bare-frame p w a t = go (spared (p .settings)) refl
   where
     go : (x : Bool) → spared (p .settings) ≡ x → Kept p a (bareStep (kitOf (p .settings)) w (state p a) .area)

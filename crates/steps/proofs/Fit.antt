@@ -1,17 +1,15 @@
 -- What the steps require, from what is known of a place; and a step of the walk, from the steps of code that make it. Assumes nothing.
-use Prim.Native.Nat.{ℕ, suc, _+_, _-_, _*_, _≤_, _<_}
+use Prim.Native.Nat.{ℕ, suc, _+_, _-_, _≤_, _<_}
 use native.Mathlib.Nat.{add-zero, sub-self}
 use native.Mathlib.Omega.{arith}
 use mathlib.Core.Path.{_≡_, sym, ap, ap₂, _∙_, subst}
-use mathlib.Core.Logic.{_≢_}
 use mathlib.Core.Bool.{Bool}
 use mathlib.Core.List.{List}
 use lib.ListN.{length}
 use Rattle.model.specs.Journey.{val}
 use Rattle.model.proofs.Bits.{val-le}
-use Rattle.measures.specs.Kit.{Kit, kit, widthOf}
-use Rattle.measures.proofs.Words.{width-links}
-use Rattle.area.specs.Parts.{Has, part, composeAt, copyAt, ownAt}
+use Rattle.measures.specs.Kit.{Kit, hops01, kit}
+use Rattle.area.specs.Parts.{partSize, Has, tableAt, composeAt, copyAt, ownAt}
 use Rattle.area.proofs.Laws.{has, own-wide, own-same, compose-copied}
 use Rattle.place.specs.declared.Settings.{Settings}
 use Rattle.place.specs.declared.Place.{Place}
@@ -22,12 +20,8 @@ use Rattle.steps.specs.Fit.{Able, In, Lends, Owns, Fit, Entry, Does}
 -- ---- parts
 
 -- a part of the place lies in the area
-pub able-has : {s : Settings} {words i : ℕ} → Able s words → In s i → Has (kitOf s .width) words i
-able-has {s} {words} {i} a j = has (kitOf s .width) (s .limit + 4) words i (a .room) (j .low) (j .high)
-
--- the same where a table is one of links
-pub links-has : {s : Settings} {words i : ℕ} → Able s words → s .measure ≢ 4 → In s i → Has (s .boards) words i
-links-has {s} {words} {i} a n j = subst (λ (k : ℕ). Has k words i) (width-links (s .measure) (s .boards) n) (able-has a j)
+pub able-has : {s : Settings} {words i : ℕ} → Able s words → In s i → Has (partSize (kitOf s)) words i
+able-has {s} {words} {i} a j = has (partSize (kitOf s)) (s .limit + 4) words i (a .room) (j .low) (j .high)
 
 pub in-part : {s : Settings} (i : ℕ) → 1 ≤ i → i ≤ s .limit + 4 → In s i
 in-part i a b = record { low = a; high = b }
@@ -119,7 +113,7 @@ pub moved-lends : (p : Place) {q : Place} {n : ℕ} → q ≡ startMoved p 1 →
 unfolding startMoved
 moved-lends p {q} {n} e h = subst (λ (x : Place). Lends (x .settings) n) (sym e) h
 
--- the part of the new pick is the own table of its words
+-- the part of the new pick has the own table of its words
 pub entry-owns : {p q : Place} {k : ℕ} {w b : List ℕ} (a : List ℕ) → q ≡ startMoved (picksTaken p 1) k
     → b ≡ ownAt (kitOf (p .settings)) a (p .window .taken .0 + 1) w → Entry p k (length a)
     → p .settings .boards ≡ length w → Owns q b w
@@ -128,9 +122,9 @@ entry-owns {p} {q} {k} {w} {b} a e g h n =
     let t = h .top in
     subst (λ (x : Place). Owns x b w) (sym e) (record {
       shape = n;
-      own = ap (λ (x : List ℕ). part (widthOf (p .settings .measure) (p .settings .boards)) x (p .window .taken .0 + 1)) g
+      own = ap (λ (x : List ℕ). tableAt (kitOf (p .settings)) x (p .window .taken .0 + 1)) g
           ∙ own-same (kitOf (p .settings)) (p .settings .limit + 4) a (h .able .room) (p .window .taken .0 + 1) (omega arith)
-          (omega arith) w (own-wide 31 (p .settings .measure) (p .settings .boards) (p .window .taken .0 + 1) w (sym n));
+          (omega arith) w (own-wide hops01 (p .settings .measure) (p .settings .boards) (p .window .taken .0 + 1) w (sym n));
     })
 
 -- nothing charged

@@ -1,7 +1,7 @@
 -- WHAT EACH STEP LEAVES AS IT WAS, of any place and any words in an area with room for the limit + 4 parts: a step writes the parts named here
 -- and no other word. The kit is a parameter; all that is asked of it is that its tables have E words. m is `taken`, s is `start`, b is
 -- `boundary`. Assumes nothing.
-use mathlib.Core.Path.{_≡_, refl, sym, _∙_, subst}
+use mathlib.Core.Path.{_≡_, refl, sym, _∙_, subst, ap}
 use mathlib.Core.Logic.{_≢_, _⊎_, inl, inr, ⊎-elim}
 use mathlib.Core.List.{List}
 use Prim.Native.Nat.{ℕ, zero, suc, _+_, _-_, _*_, _≤_, _<_, max}
@@ -10,11 +10,11 @@ use native.Mathlib.Omega.{arith}
 use mathlib.Core.Bool.{Bool, true, false, _&&_, cond}
 use lib.ListN.{length, drop}
 use lib.Dec.{T, eqb, ltb, ltb→lt}
-use Rattle.model.proofs.Logic.{le-or-lt}
+use Rattle.model.proofs.Logic.{le-or-lt, cond-ind}
 use Rattle.model.specs.Journey.{val}
-use Rattle.measures.specs.Kit.{Kit}
-use Rattle.area.specs.Parts.{part}
-use Rattle.area.proofs.Laws.{Wide, own-length, own-other, own-beyond, compose-length, compose-other, compose-beyond, copy-length, copy-other, copy-beyond}
+use Rattle.measures.specs.Kit.{Kit, Wide}
+use Rattle.area.specs.Parts.{tableAt, table, partSize, part}
+use Rattle.area.proofs.Laws.{own-length, own-other, own-beyond, compose-length, compose-other, compose-beyond, copy-length, copy-other, copy-beyond}
 use Rattle.area.proofs.Laws.{zero-length, zero-other, zero-beyond}
 use Rattle.place.specs.Places.{picksTaken, startMoved, boundaryMoved, charged, tested}
 use Rattle.model.proofs.Bits.{val-le}
@@ -23,21 +23,16 @@ use Rattle.steps.proofs.Fit.{limit-of}
 use Rattle.steps.specs.Walk.{State, state, ladder, written, rebuilt, joinedArea, joined, more, far, extendedBy, extended, entered, windowArea, onLeft}
 use Rattle.steps.specs.Walk.{onRight, windowed, judged, tried, cleared, minStep, raisedBy, raised, again, climb, climbed, ended, maxStep, stepped}
 
--- a choice, by the test's two cases
-pub cond-ind : {A : Type 0} (Q : A → Type 0) (x : Bool) (a b : A) → (T x → Q a) → ((T x → ⊥) → Q b) → Q (cond x a b)
-cond-ind Q true a b f g = f tt
-cond-ind Q false a b f g = g (λ t. t)
-
 -- room for the limit + 4 parts
 abbrev pub Room : Kit → State → Type 0
-Room K st = (st .place .settings .limit + 4) * K .width ≤ length (st .area)
+Room K st = (st .place .settings .limit + 4) * partSize K ≤ length (st .area)
 
 -- From st to q: the parts of `Out`, the length of the area and the words beyond its parts are as they were.
 pub record Frame (K : Kit) (st q : State) (Out : ℕ → Type 0) : Type 0 where
   pub settings : q .place .settings ≡ st .place .settings
-  pub parts : (j : ℕ) → 1 ≤ j → Out j → part (K .width) (q .area) j ≡ part (K .width) (st .area) j
+  pub parts : (j : ℕ) → 1 ≤ j → Out j → part (partSize K) (q .area) j ≡ part (partSize K) (st .area) j
   pub size : length (q .area) ≡ length (st .area)
-  pub beyond : drop ((st .place .settings .limit + 4) * K .width) (q .area) ≡ drop ((st .place .settings .limit + 4) * K .width) (st .area)
+  pub beyond : drop ((st .place .settings .limit + 4) * partSize K) (q .area) ≡ drop ((st .place .settings .limit + 4) * partSize K) (st .area)
 
 -- parts outside `from` to `upto` - 1, the right ladder's apart
 pub record Aside (from upto limit j : ℕ) : Type 0 where
@@ -55,10 +50,14 @@ pub record Untouched (from upto limit j : ℕ) : Type 0 where
   pub own : j ≢ upto
   pub spare : j ≢ limit + 4
 
+-- so are their tables
+pub frame-tables : {K : Kit} {st q : State} {Out : ℕ → Type 0} → Frame K st q Out → (j : ℕ) → 1 ≤ j → Out j → tableAt K (q .area) j ≡ tableAt K (st .area) j
+frame-tables {K} f j h o = ap (table (K .size)) (f .parts j h o)
+
 -- ---- one step after another
 
 pub frame-room : (K : Kit) (st q : State) (Out : ℕ → Type 0) → Frame K st q Out → Room K st → Room K q
-frame-room K st q Out f rm = rw (f .size) (subst (λ (x : ℕ). (x + 4) * K .width ≤ length (st .area)) (sym (limit-of (f .settings))) rm)
+frame-room K st q Out f rm = rw (f .size) (subst (λ (x : ℕ). (x + 4) * partSize K ≤ length (st .area)) (sym (limit-of (f .settings))) rm)
 
 pub then : (K : Kit) (st q r : State) (F G Out : ℕ → Type 0) → Frame K st q F → Frame K q r G → ((j : ℕ) → Out j → F j) →
     ((j : ℕ) → Out j → G j) → Frame K st r Out
@@ -66,14 +65,14 @@ then K st q r F G Out f g u v = record {
   settings = g .settings ∙ f .settings;
   parts = λ j h o. g .parts j h (v j o) ∙ f .parts j h (u j o);
   size = g .size ∙ f .size;
-  beyond = subst (λ (x : ℕ). drop ((x + 4) * K .width) (r .area) ≡ drop ((x + 4) * K .width) (q .area)) (limit-of (f .settings)) (g .beyond) ∙ f .beyond;
+  beyond = subst (λ (x : ℕ). drop ((x + 4) * partSize K) (r .area) ≡ drop ((x + 4) * partSize K) (q .area)) (limit-of (f .settings)) (g .beyond) ∙ f .beyond;
 }
 
 pub weaker : (K : Kit) (st q : State) (F Out : ℕ → Type 0) → Frame K st q F → ((j : ℕ) → Out j → F j) → Frame K st q Out
 weaker K st q F Out f u = record { settings = f .settings; parts = λ j h o. f .parts j h (u j o); size = f .size; beyond = f .beyond }
 
-same : (K : Kit) (st : State) (Out : ℕ → Type 0) → Frame K st st Out
-same K st Out = record { settings = refl; parts = λ j h o. refl; size = refl; beyond = refl }
+frame-same : (K : Kit) (st : State) (Out : ℕ → Type 0) → Frame K st st Out
+frame-same K st Out = record { settings = refl; parts = λ j h o. refl; size = refl; beyond = refl }
 
 aside-from : {from less upto limit j : ℕ} → Aside less upto limit j → less ≤ from → Aside from upto limit j
 aside-from {from} {less} {upto} {limit} {j} o h = record {
@@ -84,43 +83,45 @@ aside-from {from} {less} {upto} {limit} {j} o h = record {
 
 -- ---- the numbers
 
--- m and s; and no part below `from` lies between s + 1 and m where the left ladder is built anew: from ≤ s + 1, or from ≤ b + 2
-pub record Numbers (q : State) (m s from : ℕ) : Type 0 where
+-- from st on the settings stay; m and s; and no part below `from` lies between s + 1 and m where the left ladder is built anew: from ≤ s + 1, or
+-- from ≤ b + 2
+pub record Numbers (st q : State) (m s from : ℕ) : Type 0 where
+  pub settings : q .place .settings ≡ st .place .settings
   pub taken : q .place .window .taken .0 ≡ m
   pub start : q .place .window .start .0 ≡ s
   pub reach : from ≤ max (q .place .window .start .0 + 1) (q .place .window .boundary .0 + 2)
 
 pub tried-at : (K : Kit) (st : State) (from : ℕ) → from ≤ max (st .place .window .start .0 + 1) (st .place .window .boundary .0 + 2)
-    → Numbers (tried K st) (st .place .window .taken .0) (st .place .window .start .0) from
+    → Numbers st (tried K st) (st .place .window .taken .0) (st .place .window .start .0) from
 unfolding tried judged windowed charged tested
-tried-at K st from h = record { taken = refl; start = refl; reach = h }
+tried-at K st from h = record { settings = refl; taken = refl; start = refl; reach = h }
 
 pub raised-at : (K : Kit) (st : State) (from : ℕ) → from ≤ max (st .place .window .start .0 + 1) (st .place .window .boundary .0 + 2)
-    → Numbers (raised K st) (st .place .window .taken .0) (st .place .window .start .0 + 1) from
+    → Numbers st (raised K st) (st .place .window .taken .0) (st .place .window .start .0 + 1) from
 unfolding raised startMoved raisedBy rebuilt charged boundaryMoved
 raised-at K st from h = go (ltb (st .place .window .boundary .0 + 1) (st .place .window .start .0 + 1)) (λ t. ltb→lt (st .place .window .boundary .0 + 1)
     (st .place .window .start .0 + 1) t)
   where
     go : (x : Bool) → (T x → st .place .window .boundary .0 + 1 < st .place .window .start .0 + 1)
-        → Numbers (raisedBy K x (state (startMoved (st .place) 1) (st .area))) (st .place .window .taken .0) (st .place .window .start .0 + 1) from
-    go true f = let g = f tt in record { taken = refl; start = refl; reach = omega arith }
-    go false f = record { taken = refl; start = refl; reach = omega arith }
+        → Numbers st (raisedBy K x (state (startMoved (st .place) 1) (st .area))) (st .place .window .taken .0) (st .place .window .start .0 + 1) from
+    go true f = let g = f tt in record { settings = refl; taken = refl; start = refl; reach = omega arith }
+    go false f = record { settings = refl; taken = refl; start = refl; reach = omega arith }
 
-pub entered-at : (K : Kit) (k : ℕ) (w : List ℕ) (st : State) → Numbers (entered K k w st) (st .place .window .taken .0 + 1)
+pub entered-at : (K : Kit) (k : ℕ) (w : List ℕ) (st : State) → Numbers st (entered K k w st) (st .place .window .taken .0 + 1)
     (st .place .window .start .0 + k) (max (st .place .window .start .0 + k) (st .place .window .boundary .0 + 2))
 unfolding entered extended written startMoved picksTaken extendedBy joined rebuilt charged boundaryMoved
 entered-at K k w st = go (ltb (st .place .window .boundary .0 + 1) (st .place .window .start .0 + k)) (λ t. ltb→lt (st .place .window .boundary .0 + 1)
     (st .place .window .start .0 + k) t)
   where
     go : (x : Bool) → (T x → st .place .window .boundary .0 + 1 < st .place .window .start .0 + k)
-        → Numbers (extendedBy K x (written K k w st)) (st .place .window .taken .0 + 1) (st .place .window .start .0 + k)
+        → Numbers st (extendedBy K x (written K k w st)) (st .place .window .taken .0 + 1) (st .place .window .start .0 + k)
         (max (st .place .window .start .0 + k) (st .place .window .boundary .0 + 2))
-    go true f = let g = f tt in record { taken = refl; start = refl; reach = omega arith }
-    go false f = record { taken = refl; start = refl; reach = omega arith }
+    go true f = let g = f tt in record { settings = refl; taken = refl; start = refl; reach = omega arith }
+    go false f = record { settings = refl; taken = refl; start = refl; reach = omega arith }
 
 -- ---- the left ladder
 
-module _ (K : Kit) (wide : Wide K) (N : ℕ) (a : List ℕ) (room : N * K .width ≤ length a) (j : ℕ) (high : j ≤ N) where
+module _ (K : Kit) (wide : Wide K) (N : ℕ) (a : List ℕ) (room : N * partSize K ≤ length a) (j : ℕ) (high : j ≤ N) where
   pub ladder-length : (k : ℕ) → k ≤ j - 1 → length (ladder K a j k) ≡ length a
   unfolding ladder
   ladder-length zero h = refl
@@ -129,7 +130,7 @@ module _ (K : Kit) (wide : Wide K) (N : ℕ) (a : List ℕ) (room : N * K .width
       compose-length K N (ladder K a j k) (omega arith) (j - suc k) (omega arith) (omega arith) wide (j - suc k) (j - suc k + 1) ∙ e
 
   pub ladder-out : (k : ℕ) → k ≤ j - 1 → (i : ℕ) → 1 ≤ i → (i < j - k) ⊎ (j ≤ i)
-      → part (K .width) (ladder K a j k) i ≡ part (K .width) a i
+      → part (partSize K) (ladder K a j k) i ≡ part (partSize K) a i
   unfolding ladder
   ladder-out zero h i p q = refl
   ladder-out (suc k) h i p q =
@@ -138,7 +139,7 @@ module _ (K : Kit) (wide : Wide K) (N : ℕ) (a : List ℕ) (room : N * K .width
       (⊎-elim (λ (x : i < j - suc k). λ (z : i ≡ j - suc k). omega arith) (λ (x : j ≤ i). λ (z : i ≡ j - suc k). omega arith) q)
       ∙ ladder-out k (omega arith) i p (⊎-elim (λ (x : i < j - suc k). inl (omega arith)) (λ (x : j ≤ i). inr x) q)
 
-  pub ladder-beyond : (k : ℕ) → k ≤ j - 1 → drop (N * K .width) (ladder K a j k) ≡ drop (N * K .width) a
+  pub ladder-beyond : (k : ℕ) → k ≤ j - 1 → drop (N * partSize K) (ladder K a j k) ≡ drop (N * partSize K) a
   unfolding ladder
   ladder-beyond zero h = refl
   ladder-beyond (suc k) h =
@@ -151,7 +152,7 @@ module _ (K : Kit) (wide : Wide K) (N : ℕ) (a : List ℕ) (room : N * K .width
 module _ (K : Kit) where
   -- part m + 1, m before it
   pub written-frame : (k : ℕ) (w : List ℕ) (st : State) → Room K st → st .place .window .taken .0 < st .place .settings .limit
-      → length (K .own (st .place .window .taken .0 + 1) w) ≡ K .width
+      → length (K .own (st .place .window .taken .0 + 1) w) ≡ K .size
       → Frame K st (written K k w st) (λ (j : ℕ). j ≢ st .place .window .taken .0 + 1)
   unfolding written startMoved picksTaken
   written-frame k w st rm h size =
@@ -199,7 +200,7 @@ module _ (K : Kit) where
         let N = st .place .settings .limit + 4 in
         let q = ladder K (st .area) m k in
         let e = ladder-length K wide N (st .area) rm m (omega arith) k (omega arith) in
-        let rm2 : N * K .width ≤ length q = omega arith in
+        let rm2 : N * partSize K ≤ length q = omega arith in
         record {
           settings = refl;
           parts = λ j h o. zero-other K N q rm2 (lim + 1) (omega arith) (omega arith) j h (o .right)
@@ -316,7 +317,7 @@ module _ (K : Kit) where
 
     -- and part m + 1, m before it
     pub entered-frame : (k : ℕ) (w : List ℕ) (st : State) → Room K st → 1 ≤ st .place .window .start .0
-        → st .place .window .taken .0 < st .place .settings .limit → length (K .own (st .place .window .taken .0 + 1) w) ≡ K .width
+        → st .place .window .taken .0 < st .place .settings .limit → length (K .own (st .place .window .taken .0 + 1) w) ≡ K .size
         → Frame K st (entered K k w st) (λ (j : ℕ). Aside (max (st .place .window .start .0 + k) (st .place .window .boundary .0 + 2))
         (st .place .window .taken .0 + 1) (st .place .settings .limit) j × (j ≢ st .place .window .taken .0 + 1))
     unfolding entered
@@ -351,11 +352,11 @@ module _ (K : Kit) where
         → from ≤ max (st .place .window .start .0 + 1) (st .place .window .boundary .0 + 2)
         → Frame K st (climb K k st) (Beside from (st .place .window .taken .0) (st .place .settings .limit))
     unfolding climb again
-    climb-frame zero st from rm low high top reach = same K st _
+    climb-frame zero st from rm low high top reach = frame-same K st _
     climb-frame (suc k) st from rm low high top reach =
         cond-ind (λ (q : State). Frame K st q (Beside from (st .place .window .taken .0) (st .place .settings .limit))) (st .place .marks .passed) st
         (climb K k (tried K (raised K st)))
-        (λ t. same K st _)
+        (λ t. frame-same K st _)
         (λ t.
         let m = st .place .window .taken .0 in
         let lim = st .place .settings .limit in
@@ -386,7 +387,7 @@ module _ (K : Kit) where
     -- entered and tested once
     first-frame : (k : ℕ) (w : List ℕ) (st : State) → Room K st → 1 ≤ st .place .window .start .0
         → st .place .window .start .0 + k ≤ st .place .settings .limit + 4 → st .place .window .taken .0 < st .place .settings .limit
-        → length (K .own (st .place .window .taken .0 + 1) w) ≡ K .width
+        → length (K .own (st .place .window .taken .0 + 1) w) ≡ K .size
         → Frame K st (tried K (entered K k w st)) (Untouched (max (st .place .window .start .0 + k) (st .place .window .boundary .0 + 2))
         (st .place .window .taken .0 + 1) (st .place .settings .limit))
     first-frame k w st rm low high top size =
@@ -408,7 +409,7 @@ module _ (K : Kit) where
     -- measures 2, 3 and 4
     pub min-frame : (w : List ℕ) (st : State) → Room K st → 1 ≤ st .place .window .start .0
         → st .place .window .start .0 ≤ st .place .settings .limit + 3 → st .place .window .taken .0 < st .place .settings .limit
-        → length (K .own (st .place .window .taken .0 + 1) w) ≡ K .width
+        → length (K .own (st .place .window .taken .0 + 1) w) ≡ K .size
         → Frame K st (minStep K w st) (Untouched (max (st .place .window .start .0 + val (st .place .marks .passed)) (st .place .window .boundary .0 + 2))
         (st .place .window .taken .0 + 1) (st .place .settings .limit))
     unfolding minStep
@@ -418,7 +419,7 @@ module _ (K : Kit) where
 
     climbed-frame : (k : ℕ) (w : List ℕ) (st : State) → Room K st → 1 ≤ st .place .window .start .0
         → st .place .window .start .0 + k ≤ st .place .settings .limit + 4 → st .place .window .taken .0 < st .place .settings .limit
-        → length (K .own (st .place .window .taken .0 + 1) w) ≡ K .width
+        → length (K .own (st .place .window .taken .0 + 1) w) ≡ K .size
         → Frame K st (climbed K (tried K (entered K k w st))) (Untouched (max (st .place .window .start .0 + k) (st .place .window .boundary .0 + 2))
         (st .place .window .taken .0 + 1) (st .place .settings .limit))
     unfolding climbed
@@ -446,7 +447,7 @@ module _ (K : Kit) where
     -- measure 1
     pub max-frame : (w : List ℕ) (st : State) → Room K st → 1 ≤ st .place .window .start .0
         → st .place .window .start .0 ≤ st .place .settings .limit + 3 → st .place .window .taken .0 < st .place .settings .limit
-        → length (K .own (st .place .window .taken .0 + 1) w) ≡ K .width
+        → length (K .own (st .place .window .taken .0 + 1) w) ≡ K .size
         → Frame K st (maxStep K w st) (Untouched (max (st .place .window .start .0 + val (st .place .marks .failed)) (st .place .window .boundary .0 + 2))
         (st .place .window .taken .0 + 1) (st .place .settings .limit))
     unfolding maxStep picksTaken
@@ -461,7 +462,7 @@ module _ (K : Kit) where
     -- any measure: only parts max (s + rise, b + 2) to m + 1 (m and s before it), limit + 1, limit + 2 and limit + 4 can change
     pub stepped-frame : (w : List ℕ) (st : State) → Room K st → 1 ≤ st .place .window .start .0
         → st .place .window .start .0 ≤ st .place .settings .limit + 3 → st .place .window .taken .0 < st .place .settings .limit
-        → length (K .own (st .place .window .taken .0 + 1) w) ≡ K .width
+        → length (K .own (st .place .window .taken .0 + 1) w) ≡ K .size
         → Frame K st (stepped K w st) (Untouched (max (st .place .window .start .0 + rise (st .place)) (st .place .window .boundary .0 + 2))
         (st .place .window .taken .0 + 1) (st .place .settings .limit))
     unfolding stepped

@@ -7,9 +7,7 @@ use Prim.Native.Nat.{ℕ, _+_, _≤_, _<_}
 use lib.Dec.{T, eqb, eqb→eq}
 use lib.ListN.{length}
 use borrow.Author.Tests.{eq-eqb, ne-eqb, lt-ltb, le-ltb, lt-leb, le-leb}
-use Rattle.measures.specs.Kit.{widthOf, joinOf, passOf}
-use Rattle.measures.proofs.Words.{width-links}
-use Rattle.area.specs.Parts.{part}
+use Rattle.area.specs.Parts.{tableAt}
 use Rattle.place.specs.declared.Place.{Place}
 use Rattle.place.specs.Places.{charged, tested}
 use Rattle.steps.specs.Walk.{state, kitOf, onLeft, onRight, tried}
@@ -35,32 +33,32 @@ one-ladder p e = ap (λ (x : Bool). eqb (p .settings .measure) 4 && x) e ∙ and
 -- ---- by the ladders that the window lies on
 
 module _ (p : Place) (a : List ℕ) {d : ℕ} (f : Fit p (length a) d) where
-  abbrev table : ℕ → List ℕ
-  table i = part (widthOf (p .settings .measure) (p .settings .boards)) a i
+  abbrev held : ℕ → List ℕ
+  held i = tableAt (kitOf (p .settings)) a i
 
   -- the right one
   pub on-right : {r : Place} {x : Bool} → p .window .boundary .0 < p .window .start .0
-      → x ≡ kitOf (p .settings) .pass (table (p .settings .limit + 3)) (table (p .settings .limit + 1)) → r ≡ tested p x
+      → x ≡ kitOf (p .settings) .pass (held (p .settings .limit + 3)) (held (p .settings .limit + 1)) → r ≡ tested p x
       → Does (bareTried (kitOf (p .settings))) p a r a
   unfolding bareTried windowTable
   on-right {r} {x} h e g =
       let l = lt-leb (p .window .start .0) (p .window .boundary .0) h in
       let t = rw l at (tried-reads p a f) in (
-        g ∙ ap (tested p) e ∙ ap (λ (q : Place). tested q (kitOf (p .settings) .pass (table (p .settings .limit + 3)) (table (p .settings .limit + 1))))
+        g ∙ ap (tested p) e ∙ ap (λ (q : Place). tested q (kitOf (p .settings) .pass (held (p .settings .limit + 3)) (held (p .settings .limit + 1))))
             (charged-none p) ∙ sym t,
         still p a (one-ladder p (rw l)),
       )
 
   -- the left one
   pub on-left : {r : Place} {x : Bool} → p .window .start .0 ≤ p .window .boundary .0 → p .window .taken .0 ≤ p .window .boundary .0
-      → x ≡ kitOf (p .settings) .pass (table (p .settings .limit + 3)) (table (p .window .start .0)) → r ≡ tested p x
+      → x ≡ kitOf (p .settings) .pass (held (p .settings .limit + 3)) (held (p .window .start .0)) → r ≡ tested p x
       → Does (bareTried (kitOf (p .settings))) p a r a
   unfolding bareTried windowTable
   on-left {r} {x} h k e g =
       let l = le-leb (p .window .start .0) (p .window .boundary .0) h in
       let m = le-ltb (p .window .boundary .0) (p .window .taken .0) k in
       let t = rw (l, m) at (tried-reads p a f) in (
-        g ∙ ap (tested p) e ∙ ap (λ (q : Place). tested q (kitOf (p .settings) .pass (table (p .settings .limit + 3)) (table (p .window .start .0))))
+        g ∙ ap (tested p) e ∙ ap (λ (q : Place). tested q (kitOf (p .settings) .pass (held (p .settings .limit + 3)) (held (p .window .start .0))))
             (charged-none p) ∙ sym t,
         still p a (one-ladder p (rw (l, m))),
       )
@@ -68,16 +66,16 @@ module _ (p : Place) (a : List ℕ) {d : ℕ} (f : Fit p (length a) d) where
   -- both, and not composed
   pub on-both : {q r : Place} {x : Bool} → p .window .start .0 ≤ p .window .boundary .0 → p .window .boundary .0 < p .window .taken .0
       → p .settings .measure ≢ 4
-      → x ≡ kitOf (p .settings) .pass (table (p .settings .limit + 3)) (kitOf (p .settings) .join (table (p .window .start .0))
-      (table (p .settings .limit + 1))) → q ≡ charged p 1 → r ≡ tested q x
+      → x ≡ kitOf (p .settings) .pass (held (p .settings .limit + 3)) (kitOf (p .settings) .join (held (p .window .start .0))
+      (held (p .settings .limit + 1))) → q ≡ charged p 1 → r ≡ tested q x
       → Does (bareTried (kitOf (p .settings))) p a r a
   unfolding bareTried windowTable
   on-both {q} {r} {x} h k n e u g =
       let l = le-leb (p .window .start .0) (p .window .boundary .0) h in
       let m = lt-ltb (p .window .boundary .0) (p .window .taken .0) k in
       let t = rw (l, m) at (tried-reads p a f) in (
-        g ∙ ap (tested q) e ∙ ap (λ (z : Place). tested z (kitOf (p .settings) .pass (table (p .settings .limit + 3))
-            (kitOf (p .settings) .join (table (p .window .start .0)) (table (p .settings .limit + 1))))) u ∙ sym t,
+        g ∙ ap (tested q) e ∙ ap (λ (z : Place). tested z (kitOf (p .settings) .pass (held (p .settings .limit + 3))
+            (kitOf (p .settings) .join (held (p .window .start .0)) (held (p .settings .limit + 1))))) u ∙ sym t,
         still p a (rw (ne-eqb (p .settings .measure) 4 n)),
       )
 
@@ -102,12 +100,3 @@ spared-footprint p e n m = eqb→eq (p .settings .measure) 2 (go (eqb (p .settin
     go : (x : Bool) → (x || (false || false)) ≡ true → T x
     go true e = tt
     go false e = absurd (false≢true e)
-
--- a table of links has n words
-pub joined-pass : (p : Place) (a : List ℕ) → p .settings .measure ≢ 4
-    → passOf 0 (p .settings .measure) (p .settings .boards) (part (p .settings .boards) a (p .settings .limit + 3)) (joinOf (p .settings .measure)
-    (p .settings .boards) (part (p .settings .boards) a (p .window .start .0)) (part (p .settings .boards) a (p .settings .limit + 1)))
-    ≡ kitOf (p .settings) .pass (part (widthOf (p .settings .measure) (p .settings .boards)) a (p .settings .limit + 3))
-    (kitOf (p .settings) .join (part (widthOf (p .settings .measure) (p .settings .boards)) a (p .window .start .0)) (part (widthOf (p .settings .measure)
-    (p .settings .boards)) a (p .settings .limit + 1)))
-joined-pass p a n = rw (width-links (p .settings .measure) (p .settings .boards) n)

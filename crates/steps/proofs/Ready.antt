@@ -10,7 +10,8 @@ use lib.Dec.{eqb}
 use lib.ListN.{length}
 use Rattle.model.specs.Journey.{val}
 use Rattle.model.proofs.Logic.{eq-or}
-use Rattle.measures.specs.Kit.{widthOf}
+use Rattle.measures.specs.Kit.{hops01}
+use Rattle.area.specs.Parts.{partSize}
 use Rattle.place.specs.declared.Place.{Place}
 use Rattle.place.specs.Places.{Sound, picksTaken, startMoved, perPick, mostCounted}
 use Rattle.steps.specs.Walk.{state, kitOf, entered, tried, cleared, minStep, climbed, ended, maxStep, stepped}
@@ -50,7 +51,7 @@ step-takes r h c t e = record {
 }
 
 -- what cause 16 leaves is ready, where the area has room
-pub sound-ready : {p : Place} {words : ℕ} → Sound p → (p .settings .limit + 4) * kitOf (p .settings) .width ≤ words → Ready p words
+pub sound-ready : {p : Place} {words : ℕ} → Sound p → (p .settings .limit + 4) * partSize (kitOf (p .settings)) ≤ words → Ready p words
 sound-ready s room = record {
   able = record { few = s .boards-high; cap = s .limit-high; room = room };
   start = s .start-low;
@@ -61,7 +62,7 @@ sound-ready s room = record {
   none-passed = s .none-passed;
 }
 
-pub sound-takes : {p : Place} {words links : ℕ} → Sound p → (p .settings .limit + 4) * kitOf (p .settings) .width ≤ words
+pub sound-takes : {p : Place} {words links : ℕ} → Sound p → (p .settings .limit + 4) * partSize (kitOf (p .settings)) ≤ words
     → p .window .taken .0 < p .settings .limit → p .settings .boards ≡ links → Takes p words links
 sound-takes s room h e =
     let l = s .limit-high in
@@ -185,7 +186,7 @@ stepped-framed p a w r h e =
     let n = r .near in
     let b = r .bound in
     stepped-frame (kitOf (p .settings)) (kit-wide (p .settings .measure) (p .settings .boards)) w (state p a) (r .able .room) (r .start) (omega arith) h
-    (own-wide 31 (p .settings .measure) (p .settings .boards) (p .window .taken .0 + 1) w (sym e))
+    (own-wide hops01 (p .settings .measure) (p .settings .boards) (p .window .taken .0 + 1) w (sym e))
 
 pub ready-on : {p q : Place} {words : ℕ} → Stepped p q → Ready p words → Ready q words
 ready-on s r =

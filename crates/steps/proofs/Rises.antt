@@ -17,12 +17,12 @@ use Rattle.steps.proofs.Fit.{limit-of, does-kit}
 use Rattle.steps.proofs.Grown.{Grown, fit-grown, again-grown, again-once}
 
 -- after i rises from p: each charges one composition for its window, and one of them may have built the left ladder
-pub record Along (p q : Place) (i : ℕ) : Type 0 where
+pub record AfterRises (p q : Place) (i : ℕ) : Type 0 where
   pub grown : Grown p q i (p .settings .limit + i) i
   pub near : p .window .start .0 ≤ p .window .boundary .0 + 1 → q .window .start .0 ≤ q .window .boundary .0 + 1
   pub early : q .window .boundary .0 < q .window .taken .0 → q .counts .compositions .0 ≤ p .counts .compositions .0 + i
 
-pub along-none : (p : Place) → Along p p 0
+pub along-none : (p : Place) → AfterRises p p 0
 along-none p = record {
   grown = record {
     settings = refl;
@@ -38,7 +38,7 @@ along-none p = record {
 
 -- one rise more, while s is below m
 pub along-more : {p q : Place} {i : ℕ} (K : Kit) (a : List ℕ) → p .window .taken .0 ≤ p .settings .limit
-    → p .window .start .0 + i < p .window .taken .0 → Along p q i → Along p (again K (state q a) .place) (i + 1)
+    → p .window .start .0 + i < p .window .taken .0 → AfterRises p q i → AfterRises p (again K (state q a) .place) (i + 1)
 along-more {p} {q} {i} K a top low h =
     let g = h .grown in
     let gm = g .taken in
@@ -68,10 +68,10 @@ along-more {p} {q} {i} K a top low h =
 
 -- the rises of the definition: at most k more
 abbrev Risen : Place → ℕ → Place → Type 0
-Risen p most q = (j : ℕ) × ((j ≤ most) × Along p q j)
+Risen p most q = (j : ℕ) × ((j ≤ most) × AfterRises p q j)
 
 pub climb-along : (K : Kit) (k i : ℕ) (p : Place) (st : State) → p .window .taken .0 ≤ p .settings .limit
-    → p .window .start .0 + (i + k) ≡ p .window .taken .0 → Along p (st .place) i → Risen p (i + k) (climb K k st .place)
+    → p .window .start .0 + (i + k) ≡ p .window .taken .0 → AfterRises p (st .place) i → Risen p (i + k) (climb K k st .place)
 unfolding climb
 climb-along K zero i p st top row h = (i, (omega arith, h))
 climb-along K (suc k) i p st top row h =
@@ -100,7 +100,7 @@ pub record Climb (p₀ : Place) (a₀ : List ℕ) (k₀ : ℕ) (p : Place) (a : 
   pub long : length a ≡ length a₀
   pub whole : k₀ ≡ p₀ .window .taken .0 - p₀ .window .start .0
   pub down : k ≤ k₀
-  pub along : Along p₀ p (k₀ - k)
+  pub along : AfterRises p₀ p (k₀ - k)
   pub rest : climb (kitOf (p₀ .settings)) k₀ (state p₀ a₀) ≡ climb (kitOf (p₀ .settings)) k (state p a)
 
 pub climb-start : (p : Place) (a : List ℕ) → Fit p (length a) (3 * perLadder)
@@ -113,7 +113,7 @@ climb-start p a f =
       long = refl;
       whole = refl;
       down = le-refl k;
-      along = subst (λ (i : ℕ). Along p p i) e (along-none p);
+      along = subst (λ (i : ℕ). AfterRises p p i) e (along-none p);
       rest = refl;
     }
 
@@ -158,14 +158,14 @@ climb-turn {p₀} {p} {q} {a₀} {a} {b} {k₀} {k} c h e d l =
     let d′ : Does (again (kitOf (p₀ .settings))) p a q b = does-kit again p p₀ (g .settings) d in
     let e₁ : again (kitOf (p₀ .settings)) (state p a) ≡ state q b = ap₂ state (sym (d′ .0)) (sym (d′ .1)) in
     let n : k₀ - k + 1 ≡ k₀ - (k - 1) = omega arith in
-    let m : Along p₀ (again (kitOf (p₀ .settings)) (state p a) .place) (k₀ - k + 1) = along-more (kitOf (p₀ .settings)) a (f .top) (omega arith)
+    let m : AfterRises p₀ (again (kitOf (p₀ .settings)) (state p a) .place) (k₀ - k + 1) = along-more (kitOf (p₀ .settings)) a (f .top) (omega arith)
     (c .along) in
     record {
       fit₀ = f;
       long = l ∙ c .long;
       whole = c .whole;
       down = omega arith;
-      along = subst (λ (i : ℕ). Along p₀ q i) n (subst (λ (x : Place). Along p₀ x (k₀ - k + 1)) (sym (d′ .0)) m);
+      along = subst (λ (i : ℕ). AfterRises p₀ q i) n (subst (λ (x : Place). AfterRises p₀ x (k₀ - k + 1)) (sym (d′ .0)) m);
       rest = c .rest ∙ climb-more (kitOf (p₀ .settings)) k (state p a) h e ∙ ap (climb (kitOf (p₀ .settings)) (k - 1)) e₁;
     }
 

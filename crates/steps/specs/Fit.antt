@@ -6,17 +6,17 @@ use mathlib.Core.List.{List}
 use lib.Dec.{eqb}
 use lib.ListN.{length}
 use Rattle.model.specs.Journey.{val}
-use Rattle.area.specs.Parts.{part}
+use Rattle.area.specs.Parts.{partSize, tableAt}
 use Rattle.place.specs.declared.Settings.{Settings}
 use Rattle.place.specs.declared.Place.{Place}
 use Rattle.place.specs.Places.{perPick, mostCounted}
-use Rattle.steps.specs.Walk.{State, state, kitOf}
+use Rattle.steps.specs.Walk.{State, state, kitOf, onLeft}
 
 -- an area of `words` words has the parts that the settings ask for
 pub record Able (s : Settings) (words : ℕ) : Type 0 where
   pub few : s .boards ≤ 32
   pub cap : s .limit ≤ 4096
-  pub room : (s .limit + 4) * kitOf s .width ≤ words
+  pub room : (s .limit + 4) * partSize (kitOf s) ≤ words
 
 -- part i is one of them
 pub record In (s : Settings) (i : ℕ) : Type 0 where
@@ -25,12 +25,12 @@ pub record In (s : Settings) (i : ℕ) : Type 0 where
 
 -- k words, lent for the copy that a composition reads, are those of a table
 abbrev pub Lends : Settings → ℕ → Type 0
-Lends s k = kitOf s .width ≡ k
+Lends s k = kitOf s .size ≡ k
 
--- the part of the last pick is the own table of its words w
+-- the part of the last pick has the own table of its words w
 pub record Owns (p : Place) (a w : List ℕ) : Type 0 where
   pub shape : p .settings .boards ≡ length w
-  pub own : part (kitOf (p .settings) .width) a (p .window .taken .0) ≡ kitOf (p .settings) .own (p .window .taken .0) w
+  pub own : tableAt (kitOf (p .settings)) a (p .window .taken .0) ≡ kitOf (p .settings) .own (p .window .taken .0) w
 
 -- the window s to m is one of picks taken, and d more of each may be charged
 pub record Fit (p : Place) (words d : ℕ) : Type 0 where
@@ -41,6 +41,10 @@ pub record Fit (p : Place) (words d : ℕ) : Type 0 where
   pub bound : p .window .boundary .0 ≤ p .window .taken .0
   pub comps : p .counts .compositions .0 + d ≤ mostCounted
   pub tests : p .counts .tests .0 + d ≤ mostCounted
+
+-- the part that the window begins in: part s where that is on the left ladder, else the right ladder's
+abbrev pub firstPart : Place → ℕ
+firstPart p = cond (onLeft p) (p .window .start .0) (p .settings .limit + 1)
 
 -- what the start moves by at a new pick: one, under measure 1 once a test has failed, under the others after a test that passed
 abbrev pub rise : Place → ℕ

@@ -6,8 +6,8 @@ use mathlib.Core.Option.{Option, none, some}
 use mathlib.Core.List.{List}
 use lib.Dec.{eqb, leb, ltb}
 use Rattle.model.specs.Journey.{val}
-use Rattle.measures.specs.Kit.{Kit, kit}
-use Rattle.area.specs.Parts.{part, composeAt, copyAt, zeroAt, ownAt}
+use Rattle.measures.specs.Kit.{Kit, hops01, turn01, kitWith}
+use Rattle.area.specs.Parts.{tableAt, composeAt, copyAt, zeroAt, ownAt}
 use Rattle.place.specs.declared.Settings.{Settings}
 use Rattle.place.specs.declared.Place.{Place}
 use Rattle.place.specs.Places.{picksTaken, startMoved, boundaryMoved, charged, tested}
@@ -21,9 +21,9 @@ pub record State : Type 0 where
 abbrev pub state : Place → List ℕ → State
 state p a = record { place = p; area = a }
 
--- the kit of a place's settings
+-- the kit of a place's settings, with document 01's of the two that a place does not hold
 abbrev pub kitOf : Settings → Kit
-kitOf s = kit (s .measure) (s .boards)
+kitOf s = kitWith hops01 turn01 (s .measure) (s .boards)
 
 -- ---- the ladders
 
@@ -91,9 +91,9 @@ unfoldable pub windowed : Kit → State → State
 windowed K st = state (charged (st .place) (val (onLeft (st .place) && onRight (st .place)))) (windowArea K (onLeft (st .place)) (onRight (st .place))
     (st .place) (st .area))
 
--- part limit + 2 is tested against the footprint in part limit + 3
+-- the table of part limit + 2 is tested against the footprint in part limit + 3
 unfoldable pub judged : Kit → State → State
-judged K st = state (tested (st .place) (K .pass (part (K .width) (st .area) (st .place .settings .limit + 3)) (part (K .width) (st .area)
+judged K st = state (tested (st .place) (K .pass (tableAt K (st .area) (st .place .settings .limit + 3)) (tableAt K (st .area)
     (st .place .settings .limit + 2)))) (st .area)
 
 -- one test of the window s to m

@@ -1,6 +1,6 @@
 // The steps of the walk, on a place and the words of its area. m is the picks taken, s the start of the window, b the boundary: the left ladder
 // stands in parts s to b, the right ladder, over picks b + 1 to m, in part limit + 1, the window in part limit + 2, the footprint in limit + 3.
-// `right` has the words of a part and is lent from above: compositions of measures 3 and 4 copy the later table into it. What it holds is free before and
+// `right` has the words of a table and is lent from above: compositions of measures 3 and 4 copy the later table into it. What it holds is free before and
 // after.
 ghost use mathlib.Core.Path.{_≡_};
 ghost use mathlib.Core.Bool.{true, not, _&&_};
@@ -12,7 +12,7 @@ ghost use Rattle.area.specs.Parts.{composeAt, copyAt, zeroAt};
 ghost use Rattle.steps.specs.Walk.{state, kitOf, ladder, rebuilt, joined, extended, entered, windowed, judged, tried, raised, again, climbed};
 ghost use Rattle.steps.specs.Alike.{finished};
 ghost use Rattle.steps.specs.Bare.{bareTried, spared, stepBy};
-ghost use Rattle.steps.specs.Fit.{Able, In, Lends, Owns, Fit, rise, Entry, Takes, Does};
+ghost use Rattle.steps.specs.Fit.{Able, In, Lends, Owns, Fit, firstPart, rise, Entry, Takes, Does};
 use model::Pick;
 use place::Place;
 
@@ -128,7 +128,18 @@ fn enter(p: Place, area: &mut [u32], words: &[u32], right: &mut [u32], k: usize)
 
 // ---- a test
 
-// The window s to m goes to part limit + 2: a composition where it lies on both ladders, else a copy from the one it lies on.
+// The part that the window begins in: part s where that is on the left ladder, else the right ladder's.
+fn first_part(p: Place) -> usize
+    requires { ⌜ p .settings .limit ≤ 4096 ⌝ }
+    ensures { λ r. ⌜ r ≡ firstPart p ⌝ }
+{
+    let s = p.window.start;
+    let b = p.window.boundary;
+    let limit = p.settings.limit;
+    if b.0 < s.0 { limit + 1 } else { s.0 }
+}
+
+// The window s to m goes to part limit + 2: a copy from the ladder that it begins on, and a composition where it lies on both.
 fn window(p: Place, area: &mut [u32], right: &mut [u32]) -> Place
     requires { ⌜ Fit p (length (now area)) 0 × Lends (p .settings) (length (now right)) ⌝ }
     ensures { λ r. ⌜ Does (windowed (kitOf (p .settings))) p (now (area .entry)) r (now (area .exit)) ⌝ }
@@ -137,11 +148,11 @@ fn window(p: Place, area: &mut [u32], right: &mut [u32]) -> Place
     let s = p.window.start;
     let b = p.window.boundary;
     let limit = p.settings.limit;
+    let from = first_part(p);
+    copy_at(p, area, limit + 2, from);
     if b.0 < s.0 {
-        copy_at(p, area, limit + 2, limit + 1);
         return p;
     }
-    copy_at(p, area, limit + 2, s.0);
     if m.0 <= b.0 {
         return p;
     }
@@ -155,12 +166,14 @@ fn judge(p: Place, area: &[u32]) -> Place
     ensures { λ r. ⌜ r ≡ judged (kitOf (p .settings)) (state p (now (area .entry))) .place ⌝ }
 {
     let limit = p.settings.limit;
+    let turn = measures::turn_round();
     let passed = area::passes_part(
         area,
         p.settings.measure,
         p.settings.boards,
         limit + 3,
         limit + 2,
+        turn,
     );
     p.tested(passed)
 }
@@ -186,11 +199,27 @@ fn judge_ladders(p: Place, area: &mut [u32], right: &mut [u32]) -> Place
     let limit = p.settings.limit;
     if b.0 < s.0 {
         let at = limit + 1;
-        let passed = area::passes_part(area, p.settings.measure, p.settings.boards, limit + 3, at);
+        let turn = measures::turn_round();
+        let passed = area::passes_part(
+            area,
+            p.settings.measure,
+            p.settings.boards,
+            limit + 3,
+            at,
+            turn,
+        );
         return p.tested(passed);
     }
     if m.0 <= b.0 {
-        let passed = area::passes_part(area, p.settings.measure, p.settings.boards, limit + 3, s.0);
+        let turn = measures::turn_round();
+        let passed = area::passes_part(
+            area,
+            p.settings.measure,
+            p.settings.boards,
+            limit + 3,
+            s.0,
+            turn,
+        );
         return p.tested(passed);
     }
     if p.settings.measure == 4 {

@@ -4,7 +4,7 @@ use mathlib.Core.Bool.{Bool, true, false, cond}
 use mathlib.Core.List.{List, _++_}
 use Prim.Native.Nat.{ℕ, _+_, _*_, _-_, _≤_, _<_, zero-le}
 use native.Mathlib.Numerals.{add-one}
-use native.Mathlib.Nat.{sub-zero, zero-mul, suc-mul, mul-le-mul-right, le-of-eq, add-sub-cancel-left}
+use native.Mathlib.Nat.{sub-zero, zero-mul, suc-mul, mul-le-mul, mul-le-mul-right, le-of-eq, add-sub-cancel-left}
 use native.Mathlib.Omega.{arith}
 use lib.Dec.{eqb}
 use lib.ListN.{length, take, drop, set, getD, length-drop, length-set}
@@ -13,7 +13,7 @@ use borrow.Author.Tests.{eqb-true, eqb-false}
 use Rattle.lists.specs.Tab.{tab, splice}
 use Rattle.lists.proofs.Splice.{splice-length, splice-after, splice-more, splice-none, splice-whole, written-part, written-first}
 use Rattle.lists.proofs.Tab.{length-tab, getD-tab}
-use Rattle.times.specs.Times.{rows, apart}
+use Rattle.times.specs.Times.{rows, timesWords, apart}
 use Rattle.times.proofs.Cells.{length-rows}
 
 -- ---- places
@@ -25,6 +25,10 @@ cell-lt n {a} {b} h l = omega (arith, suc-mul a n, mul-le-mul-right n h)
 -- a row is within a half
 pub row-le : (n : ℕ) {u : ℕ} → u < n → u * n + n ≤ n * n
 row-le n {u} h = omega (arith, suc-mul u n, mul-le-mul-right n h)
+
+-- a half has few words
+pub half-few : {n : ℕ} → n ≤ 32 → n * n ≤ 1024
+half-few h = mul-le-mul h h
 
 -- a part from `at` on, of n words
 pub part-length : (n at : ℕ) (xs : List ℕ) → at + n ≤ length xs → n ≡ length (take (at + n - at) (drop at xs))
@@ -74,7 +78,7 @@ module _ {n : ℕ} {f : ℕ → ℕ → ℕ} {t₀ t : List ℕ} {u : ℕ} (m : 
       m .made ∙ rw q (splice-whole (n * n) (rows n f n) t₀ (omega (arith, m .size)))
 
 -- two halves of rows, lent and written one after the other over all of xs
-pub halves : (n : ℕ) (f g : ℕ → ℕ → ℕ) (a b xs : List ℕ) → n * n + n * n ≡ length xs → a ≡ rows n f n → b ≡ rows n g n
+pub halves : (n : ℕ) (f g : ℕ → ℕ → ℕ) (a b xs : List ℕ) → timesWords n ≡ length xs → a ≡ rows n f n → b ≡ rows n g n
     → take (n * n) (a ++ drop (n * n - 0) xs) ++ (b ++ drop (n * n + n * n - n * n) (drop (n * n) (a ++ drop (n * n - 0) xs))) ≡ rows n f n ++ rows n g n
 halves n f g a b xs e p q =
     let m = n * n in

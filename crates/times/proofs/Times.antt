@@ -1,7 +1,7 @@
 -- What a pick's own table of times, composition and the test of measure 4 tell, and that a window has one table. Assumes nothing.
 use mathlib.Core.Path.{_≡_, refl, sym, _∙_, subst}
 use mathlib.Core.Logic.{_≢_, _⊎_, inl, inr, ⊎-elim, _↔_}
-use mathlib.Core.Bool.{Bool, true, false, _&&_, not, cond}
+use mathlib.Core.Bool.{Bool, true, false, _&&_, not}
 use mathlib.Core.List.{List, _++_}
 use Prim.Native.Nat.{ℕ, zero, suc, _+_, _*_, _≤_, _<_}
 use native.Mathlib.Nat.{not-suc-le-zero, le-refl}
@@ -11,21 +11,16 @@ use lib.ListN.{length, drop, length-append}
 use Rattle.model.specs.Recording.{link, Recording}
 use Rattle.model.specs.Journey.{Limit, Journey}
 use Rattle.model.specs.Measures.{RoundTrip, PassesRoundTrip}
-use Rattle.model.proofs.Logic.{F→≡, eq-or, eq-refl, le-or-lt, or-l, or-r, or-cases, and-both, and-l, and-r, eqb-ne, ne-eqb}
+use Rattle.model.proofs.Logic.{F→≡, eq-or, eq-refl, le-or-lt, or-l, or-r, or-cases, and-both, and-l, and-r, eqb-ne, ne-eqb, cond-ind, not-le}
 use Rattle.model.proofs.Trips.{journey-split, journey-to, journey-wider}
 use Rattle.lists.specs.Tab.{kept}
 use Rattle.lists.proofs.Tab.{every-in, every-out}
-use Rattle.times.specs.Times.{cell, rows, arr, dep, sooner, later, after, apart, arriveBy, departBy, arrival, departure, arrivals, departures}
+use Rattle.times.specs.Times.{cell, rows, timesWords, arr, dep, sooner, later, after, apart, arriveBy, departBy, arrival, departure, arrivals, departures}
 use Rattle.times.specs.Times.{composeTimes, ownTime, ownTimes, inTime, rowInTime, allInTime}
 use Rattle.times.specs.Tells.{Earliest, no-arrival, first, Latest, no-departure, last, TellsTimes}
-use Rattle.times.proofs.Cells.{length-rows, cell-rows, arr-append, dep-append, over, times-ext}
+use Rattle.times.proofs.Cells.{length-rows, cell-rows, arr-append, dep-append, times-ext}
 
 -- ---- times, where 0 is none
-
--- what holds of the one chosen, by cases
-choose-by : (Q : ℕ → Type 0) (b : Bool) (x y : ℕ) → (T b → Q x) → ((T b → ⊥) → Q y) → Q (cond b x y)
-choose-by Q true x y f g = f tt
-choose-by Q false x y f g = g (λ t. t)
 
 -- x is as good as the time a: for arrivals, a time at or before it; for departures, one at or after it
 abbrev Before : ℕ → ℕ → Type 0
@@ -48,9 +43,9 @@ sooner-by : (Q : ℕ → Type 0) (x y : ℕ) → (x ≡ 0 → Q y) → (y ≡ 0 
     → Q (sooner x y)
 unfolding sooner
 sooner-by Q x y f g h k =
-    choose-by Q (eqb x 0) y _ (λ t. f (eqb→eq x 0 t))
-    (λ p. choose-by Q (eqb y 0) x _ (λ t. g (eqb→eq y 0 t))
-    (λ q. choose-by Q (leb x y) x y (λ t. h (some x p) (leb→le x y t)) (λ t. k (some y q) (over x y t))))
+    cond-ind Q (eqb x 0) y _ (λ t. f (eqb→eq x 0 t))
+    (λ p. cond-ind Q (eqb y 0) x _ (λ t. g (eqb→eq y 0 t))
+    (λ q. cond-ind Q (leb x y) x y (λ t. h (some x p) (leb→le x y t)) (λ t. k (some y q) (not-le x y t))))
 
 sooner-picks : Picks Before sooner
 sooner-picks = record {
@@ -62,18 +57,18 @@ sooner-picks = record {
 later-picks : Picks After later
 unfolding later
 later-picks = record {
-  one = λ Q x y p q. choose-by Q (leb x y) y x (λ t. q) (λ t. p);
-  left = λ x y a b. choose-by (λ z. After z a) (leb x y) y x (λ t. omega (arith, leb→le x y t)) (λ t. b);
-  right = λ x y a b. choose-by (λ z. After z a) (leb x y) y x (λ t. b) (λ t. omega (arith, over x y t));
+  one = λ Q x y p q. cond-ind Q (leb x y) y x (λ t. q) (λ t. p);
+  left = λ x y a b. cond-ind (λ z. After z a) (leb x y) y x (λ t. omega (arith, leb→le x y t)) (λ t. b);
+  right = λ x y a b. cond-ind (λ z. After z a) (leb x y) y x (λ t. b) (λ t. omega (arith, not-le x y t));
 }
 
 apart-own : (u x : ℕ) → apart u u x ≡ 0
 unfolding apart
-apart-own u x = choose-by (λ z. z ≡ 0) (eqb u u) 0 x (λ t. refl) (λ f. absurd (f (eqb-refl u)))
+apart-own u x = cond-ind (λ z. z ≡ 0) (eqb u u) 0 x (λ t. refl) (λ f. absurd (f (eqb-refl u)))
 
 apart-other : (u v x : ℕ) → u ≢ v → apart u v x ≡ x
 unfolding apart
-apart-other u v x ne = choose-by (λ z. z ≡ x) (eqb u v) 0 x (λ t. absurd (ne (eqb→eq u v t))) (λ f. refl)
+apart-other u v x ne = cond-ind (λ z. z ≡ x) (eqb u v) 0 x (λ t. absurd (ne (eqb→eq u v t))) (λ f. refl)
 
 -- ---- the best of several times
 
@@ -101,7 +96,7 @@ module _ {B : ℕ → ℕ → Type 0} {op : ℕ → ℕ → ℕ} (c : Picks B op
   chosen Q zero o f g h = rw start (c .one Q x y f g)
   chosen Q (suc n) o f g h =
       rw next (c .one Q _ _ (chosen Q n o f g (λ w l. h w (omega arith)))
-      (choose-by Q (eqb (p n) 0) 0 (q n) (λ t. o) (λ z. h n (le-refl (suc n)) (λ e. z (eq-refl e)))))
+      (cond-ind Q (eqb (p n) 0) 0 (q n) (λ t. o) (λ z. h n (le-refl (suc n)) (λ e. z (eq-refl e)))))
 
   -- it is as good as all that is offered
   good : (n a : ℕ) → Offer B x y p q n a → B (F n) a
@@ -113,7 +108,7 @@ module _ {B : ℕ → ℕ → Type 0} {op : ℕ → ℕ → ℕ} (c : Picks B op
   good (suc n) a (there f) = rw next (c .left _ _ a (good n a (there f)))
   good (suc n) a (over-by w h e f) =
       rw next (⊎-elim (λ (z : w
-      ≡ n). c .right _ _ a (rw (← z) (choose-by (λ x. B x a) (eqb (p w) 0) 0 (q w) (λ t. absurd (e (eqb→eq (p w) 0 t))) (λ t. f))))
+      ≡ n). c .right _ _ a (rw (← z) (cond-ind (λ x. B x a) (eqb (p w) 0) 0 (q w) (λ t. absurd (e (eqb→eq (p w) 0 t))) (λ t. f))))
       (λ (z : w ≢ n). c .left _ _ a (good n a (over-by w (omega arith) e f))) (eq-or w n))
 
   -- so it is the best, where all that is offered is real
@@ -248,7 +243,7 @@ module _ (n : ℕ) (r : List (List ℕ)) (L : Limit) (rec : Recording n r) (k u 
 
 -- the words of a table whose halves are rows
 module _ (n : ℕ) (f g : ℕ → ℕ → ℕ) where
-  wide-rows : length (rows n f n ++ rows n g n) ≡ n * n + n * n
+  wide-rows : length (rows n f n ++ rows n g n) ≡ timesWords n
   wide-rows = simp (length-append, length-rows)
 
   arr-rows : (u v : ℕ) → u < n → v < n → arr n (rows n f n ++ rows n g n) u v ≡ f u v
@@ -330,11 +325,11 @@ in-time-is n turn t u v =
     )
 
 -- a table's times that meet make a round trip
-meets : {r : List (List ℕ)} {L : Limit} {turn i j u v x z : ℕ} → x ≢ 0 → x + turn ≤ z → Earliest r L i j u v x → Latest r L i j v u z
+times-meet : {r : List (List ℕ)} {L : Limit} {turn i j u v x z : ℕ} → x ≢ 0 → x + turn ≤ z → Earliest r L i j u v x → Latest r L i j v u z
     → RoundTrip r L turn i j u v
-meets p q (no-arrival e f) d = absurd (p e)
-meets p q (first c) (no-departure e f) = absurd (omega arith)
-meets {x = x} {z = z} p q (first c) (last d) = record { a = x; d = z; arrival = c; departure = d; in-time = q }
+times-meet p q (no-arrival e f) d = absurd (p e)
+times-meet p q (first c) (no-departure e f) = absurd (omega arith)
+times-meet {x = x} {z = z} p q (first c) (last d) = record { a = x; d = z; arrival = c; departure = d; in-time = q }
 
 -- THEOREM. The test of measure 4 tells whether the window passes.
 pub tells-test : {r : List (List ℕ)} {n : ℕ} {L : Limit} {turn i j : ℕ} {t : List ℕ} → 1 ≤ i → i ≤ j → j ≤ length r
@@ -342,7 +337,7 @@ pub tells-test : {r : List (List ℕ)} {n : ℕ} {L : Limit} {turn i j : ℕ} {t
     → T (allInTime n turn t) ↔ PassesRoundTrip r n L turn i j
 unfolding allInTime rowInTime
 tells-test {r} {n} {L} {turn} {i} {j} {t} hi hj hr a = (
-  λ h u v hu hv ne. ⊎-elim (λ e. absurd (ne e)) (λ m. meets (m .0) (m .2) (a .arrives u v hu hv ne) (a .departs v u hv hu (λ e. ne (sym e))))
+  λ h u v hu hv ne. ⊎-elim (λ e. absurd (ne e)) (λ m. times-meet (m .0) (m .2) (a .arrives u v hu hv ne) (a .departs v u hv hu (λ e. ne (sym e))))
       (in-time-is n turn t u v .0 (every-out (inTime n turn t u) n (every-out (rowInTime n turn t) n h u hu) v hv)),
   λ f. every-in (rowInTime n turn t) n (λ u hu. every-in (inTime n turn t u) n (λ v hv. in-time-is n turn t u v .1 (
       ⊎-elim inl (λ (ne : u ≢ v). inr (back u v hu hv ne (f u v hu hv ne))) (eq-or u v)))),

@@ -1,6 +1,6 @@
 -- Tables of times, measure 4: n × n words of earliest arrivals, then n × n words of latest departures, each at word from × n + to; 0 where
 -- there is no journey. Each operation is defined on the words as they are found, each half by itself; own entries are written as 0.
-use mathlib.Core.Bool.{Bool, true, false, _&&_, _||_, not, cond}
+use mathlib.Core.Bool.{Bool, _&&_, _||_, not, cond}
 use mathlib.Core.List.{List, [], _++_}
 use Prim.Native.Nat.{ℕ, zero, suc, _+_, _*_}
 use lib.Dec.{eqb, leb}
@@ -18,6 +18,10 @@ cell n half u v = getD half (u * n + v) 0
 unfoldable pub rows : ℕ → (ℕ → ℕ → ℕ) → ℕ → List ℕ
 rows n f zero = []
 rows n f (suc u) = rows n f u ++ tab (f u) n
+
+-- the words of a table of times: arrivals, then departures
+abbrev pub timesWords : ℕ → ℕ
+timesWords n = n * n + n * n
 
 -- the two halves of a table
 abbrev pub arr : ℕ → List ℕ → ℕ → ℕ → ℕ

@@ -8,11 +8,20 @@ ghost use lib.Bits.{bitAnd};
 ghost use lib.Dec.{eqb};
 ghost use lib.ListN.{length};
 ghost use Rattle.lists.specs.Tab.{tab};
-ghost use Rattle.times.specs.Times.{ownTimes, allInTime};
+ghost use Rattle.times.specs.Times.{timesWords, ownTimes, allInTime};
 ghost use Rattle.times.specs.Own.{boardBit, ownWord, Twice, OwnRow};
 ghost use Rattle.times.specs.Pairs.{noLater, pairInTime, belowInTime};
 use model::Board;
 use model::Pick;
+
+// The words of a table.
+pub fn words(n: usize) -> usize
+    requires { ⌜ n ≤ 32 ⌝ }
+    ensures { λ r. ⌜ r ≡ timesWords n ⌝ }
+{
+    let cells = n * n;
+    cells + cells
+}
 
 // ---- own table
 
@@ -54,7 +63,7 @@ fn own_row(out: &mut [u32], bits: &[u32], joined: &[u32], n: usize, from: Board,
 
 // Writes over out the own table of a pick, where joined marks the pairs joined within it: its number for each of them, in both halves.
 pub fn own(out: &mut [u32], joined: &[u32], n: usize, pick: Pick)
-    requires { ⌜ (n ≤ 32) × ((pick .0 < 2 ^ 32) × ((n * n + n * n ≡ length (now out)) × (n ≤ length (now joined)))) ⌝ }
+    requires { ⌜ (n ≤ 32) × ((pick .0 < 2 ^ 32) × ((timesWords n ≡ length (now out)) × (n ≤ length (now joined)))) ⌝ }
     ensures { λ _. ⌜ now (out .exit) ≡ ownTimes n (pick .0) (now (joined .entry)) ⌝ }
 {
     let p = pick.0;
@@ -66,50 +75,51 @@ pub fn own(out: &mut [u32], joined: &[u32], n: usize, pick: Pick)
 
 // ---- test
 
-// Whether x is a time, no later than y. No time, 0, less 1 is the greatest word, so that one comparison asks both.
-fn no_later(x: u32, y: u32) -> bool
-    ensures { λ r. ⌜ r ≡ noLater x y ⌝ }
+// Whether x is a time, and y is `turn` or more after it. No time, 0, less 1 is the greatest word, so that one comparison asks both. The sum is one of
+// 64 bits: it wraps for no x and no turn.
+fn no_later(x: u32, y: u32, turn: u32) -> bool
+    ensures { λ r. ⌜ r ≡ noLater turn x y ⌝ }
 {
-    std::num::wrapping_sub_u32(x, 1) < y
+    std::num::wrapping_sub_u32(x, 1) as usize + (turn as usize) < y as usize
 }
 
-// Whether light goes from a to b and back within the table, and from b to a and back: it arrives at or before the departure of the way back.
-fn pair_in_time(t: &[u32], n: usize, a: Board, b: Board) -> bool
-    requires { ⌜ (n ≤ 32) × ((a .0 < n) × ((b .0 < a .0) × (n * n + n * n ≤ length (now t)))) ⌝ }
-    ensures { λ r. ⌜ r ≡ pairInTime n (now (t .entry)) (a .0) (b .0) ⌝ }
+// Whether light goes from a to b and back within the table, and from b to a and back: the way back departs `turn` picks or more after the arrival.
+fn pair_in_time(t: &[u32], n: usize, turn: u32, a: Board, b: Board) -> bool
+    requires { ⌜ (n ≤ 32) × ((a .0 < n) × ((b .0 < a .0) × (timesWords n ≤ length (now t)))) ⌝ }
+    ensures { λ r. ⌜ r ≡ pairInTime n turn (now (t .entry)) (a .0) (b .0) ⌝ }
 {
     let u = a.0;
     let v = b.0;
     let there = u * n + v;
     let back = v * n + u;
     let half = n * n;
-    if !no_later(t[there], t[half + back]) {
+    if !no_later(t[there], t[half + back], turn) {
         return false;
     }
-    no_later(t[back], t[half + there])
+    no_later(t[back], t[half + there], turn)
 }
 
 // Whether a board is in time with each board below it.
-fn row_in_time(t: &[u32], n: usize, from: Board) -> bool
-    requires { ⌜ (n ≤ 32) × ((from .0 < n) × (n * n + n * n ≤ length (now t))) ⌝ }
-    ensures { λ r. ⌜ r ≡ belowInTime n (now (t .entry)) (from .0) ⌝ }
+fn row_in_time(t: &[u32], n: usize, turn: u32, from: Board) -> bool
+    requires { ⌜ (n ≤ 32) × ((from .0 < n) × (timesWords n ≤ length (now t))) ⌝ }
+    ensures { λ r. ⌜ r ≡ belowInTime n turn (now (t .entry)) (from .0) ⌝ }
 {
     let u = from.0;
     for v in 0..u {
-        if !pair_in_time(t, n, Board(u), Board(v)) {
+        if !pair_in_time(t, n, turn, Board(u), Board(v)) {
             return false;
         }
     }
     true
 }
 
-// Whether each pair of boards is in time. A pair is looked at once, for both ways round.
-pub fn in_time(t: &[u32], n: usize) -> bool
-    requires { ⌜ (n ≤ 32) × (n * n + n * n ≤ length (now t)) ⌝ }
-    ensures { λ r. ⌜ r ≡ allInTime n 0 (now (t .entry)) ⌝ }
+// Whether each pair of boards is in time, with `turn` picks to turn round in. A pair is looked at once, for both ways round.
+pub fn in_time(t: &[u32], n: usize, turn: u32) -> bool
+    requires { ⌜ (n ≤ 32) × (timesWords n ≤ length (now t)) ⌝ }
+    ensures { λ r. ⌜ r ≡ allInTime n turn (now (t .entry)) ⌝ }
 {
     for u in 0..n {
-        if !row_in_time(t, n, Board(u)) {
+        if !row_in_time(t, n, turn, Board(u)) {
             return false;
         }
     }

@@ -8,26 +8,20 @@ use mathlib.Core.List.{List}
 use lib.Dec.{T, eqb, eqb→eq, leb, leb→le, le→leb, ltb, ltb→lt, lt→ltb}
 use lib.ListN.{length, take, drop}
 use Rattle.model.specs.Causes.{between, NoneHolds}
-use Rattle.model.proofs.Causes.{none-holds}
+use Rattle.model.proofs.Causes.{none-holds, holds-by, not-of-true, between-says, in-range}
 use Rattle.model.proofs.Logic.{tr, T→≡, F→≡, eq-refl, and-l, and-r, and-both}
 use Rattle.checks.specs.Checks.{clean, listed}
 use Rattle.checks.specs.Lent.{cleanPicks}
-use Rattle.measures.specs.Kit.{widthOf}
-use Rattle.measures.proofs.Words.{width-links}
-use Rattle.area.specs.Parts.{Has, part}
+use Rattle.measures.specs.Kit.{kit}
+use Rattle.measures.proofs.Words.{size-links}
+use Rattle.area.specs.Parts.{widthOf, Has, tableAt}
+use Rattle.area.proofs.Stored.{table-lent}
 use Rattle.area.proofs.Laws.{has}
-use Rattle.area.proofs.Lent.{width-most}
+use Rattle.area.proofs.Lent.{lies-links, width-most}
 use Rattle.place.specs.declared.Place.{Place}
 use Rattle.place.proofs.Laws.{sound-says, sound-in}
 use Rattle.verdicts.specs.Verdicts.{needed, lentCauses, openCauses, pickCauses, wholeCauses, openVerdict, pickVerdict, wholeVerdict}
-use Rattle.verdicts.specs.Fit.{Clears, Opens, Takes, Runs}
-
--- a range that was checked
-pub between-says : (low x high : ℕ) → between low x high ≡ true → (low ≤ x) × (x ≤ high)
-unfolding between
-between-says low x high e =
-    let t = tr (sym e) tt in
-    (leb→le low x (and-l (leb low x) (leb x high) t), leb→le x high (and-r (leb low x) (leb x high) t))
+use Rattle.verdicts.specs.Fit.{Clears, Opens, Admitted, Runs}
 
 -- a check passed or failed, as code finds it
 pub passed-by : {x y : Bool} → x ≡ y → not x ≡ false → not y ≡ false
@@ -35,13 +29,6 @@ passed-by e f = ap not (sym e) ∙ f
 
 pub failed-by : {x y : Bool} → x ≡ y → not x ≡ true → not y ≡ true
 failed-by e f = ap not (sym e) ∙ f
-
-pub holds-by : {x y : Bool} → x ≡ y → not x ≡ false → y ≡ true
-holds-by {x} {y} e f = sym e ∙ go x f
-  where
-    go : (x : Bool) → not x ≡ false → x ≡ true
-    go true f = refl
-    go false f = sym f
 
 -- the words that an area needs are few enough to be counted
 pub needed-most : (measure n limit e : ℕ) → n ≤ 32 → limit ≤ 4096 → e ≡ widthOf measure n → (limit + 4) * e ≤ 8396800
@@ -55,21 +42,18 @@ needed-most measure n limit e a b q =
 pub third-part : (measure n limit words : ℕ) → needed measure n limit ≤ words → Has (widthOf measure n) words (limit + 3)
 third-part measure n limit words h = has (widthOf measure n) (limit + 4) words (limit + 3) h (omega arith) (omega arith)
 
--- the same, of the width and the length that code has
-pub third-fits : (measure n limit e words after : ℕ) → e ≡ widthOf measure n → after ≡ words → needed measure n limit ≤ words
-    → Has e after (limit + 3)
-third-fits measure n limit e words after q k h = rw (q, k) (third-part measure n limit words h)
+-- under measure 2 its table lies where code lends it
+pub third-room : (measure n limit words : ℕ) {e : ℕ} → measure ≡ 2 → e ≡ widthOf measure n → needed measure n limit ≤ words → (limit + 2) * e + n ≤ words
+third-room measure n limit words {e} two q h =
+    let i : limit + 3 - 1 ≡ limit + 2 = omega arith in
+    rw i at (lies-links measure n (λ x. omega arith) q (third-part measure n limit words h))
 
--- part limit + 3, as code lends it
-pub third-lent : (n limit : ℕ) (a : List ℕ) → take ((limit + 2) * n + n - (limit + 2) * n) (drop ((limit + 2) * n) a) ≡ part n a (limit + 3)
-unfolding part
-third-lent n limit a =
-    let e : limit + 2 ≡ limit + 3 - 1 = omega arith in
-    ap (λ (x : ℕ). take x (drop ((limit + 2) * n) a)) (add-sub-cancel-left ((limit + 2) * n) n) ∙ ap (λ (x : ℕ). take n (drop (x * n) a)) e
-
--- under measure 2 a part has n words
-pub links-room : (measure n limit words : ℕ) → measure ≡ 2 → needed measure n limit ≤ words → (limit + 4) * n ≤ words
-links-room measure n limit words m h = subst (λ (x : ℕ). (limit + 4) * x ≤ words) (width-links measure n (λ x. omega arith)) h
+pub third-lent : (measure n limit : ℕ) (a : List ℕ) {e : ℕ} → measure ≡ 2 → e ≡ widthOf measure n
+    → take ((limit + 2) * e + n - (limit + 2) * e) (drop ((limit + 2) * e) a) ≡ tableAt (kit measure n) a (limit + 3)
+third-lent measure n limit a {e} two q =
+    let i : limit + 2 ≡ limit + 3 - 1 = omega arith in
+    ap (λ (x : ℕ). take x (drop ((limit + 2) * e) a)) (add-sub-cancel-left ((limit + 2) * e) n) ∙ ap (λ (x : ℕ). take n (drop (x * e) a)) i
+    ∙ table-lent (kit measure n) a (limit + 3) q (sym (size-links measure n (λ x. omega arith)))
 
 pub not-short : (x y : ℕ) → ltb x y ≡ false → y ≤ x
 not-short x y e = let g : x < y → ⊥ = λ h. tr e (lt→ltb x y h) in omega arith
@@ -110,7 +94,7 @@ pub open-clears : {n measure limit : ℕ} {footprint a : List ℕ} → Opens n m
 open-clears o = record { few = o .few; cap = o .cap; room = o .room; list = o .list }
 
 -- what a pick relies on
-pub pick-sound : (p : Place) (a w : List ℕ) → pickVerdict p a w ≡ 0 → Takes p a w
+pub pick-sound : (p : Place) (a w : List ℕ) → pickVerdict p a w ≡ 0 → Admitted p a w
 unfolding pickVerdict
 pick-sound p a w e =
     let n = p .settings .boards in
@@ -123,7 +107,7 @@ pick-sound p a w e =
       shape = eqb→eq (length w) n (true-of (eqb (length w) n) (s .1 .1 .0));
       clean = true-of (clean n w) (t .0);
       room = not-short (length a) (needed (p .settings .measure) n (p .settings .limit)) (t .1 .0);
-      listed = two-of (p .settings .measure) (listed n (part n a (p .settings .limit + 3)) w) (t .1 .1 .0);
+      listed = two-of (p .settings .measure) (listed n (tableAt (kit (p .settings .measure) n) a (p .settings .limit + 3)) w) (t .1 .1 .0);
     }
 
 -- what the first causes of a lent recording leave
@@ -158,19 +142,12 @@ whole-sound n measure w a e =
 
 -- ---- the other way: where each clause holds, no cause does
 
-pub passes : (x : Bool) → T x → not x ≡ false
-passes x t = ap not (T→≡ x t)
-
 two-passes : (measure : ℕ) (x : Bool) → (measure ≡ 2 → T x) → eqb measure 2 && not x ≡ false
 two-passes measure x f = go (eqb measure 2) (λ t. f (eqb→eq measure 2 t))
   where
     go : (b : Bool) → (T b → T x) → b && not x ≡ false
-    go true g = passes x (g tt)
+    go true g = not-of-true x (g tt)
     go false g = refl
-
-pub in-range : (low x high : ℕ) → low ≤ x → x ≤ high → not (between low x high) ≡ false
-unfolding between
-in-range low x high a b = passes (leb low x && leb x high) (and-both (leb low x) (leb x high) (le→leb low x a) (le→leb x high b))
 
 pub long-enough : (x y : ℕ) → y ≤ x → ltb x y ≡ false
 long-enough x y h = F→≡ (ltb x y) (λ t. let z = ltb→lt x y t in omega arith)
@@ -195,9 +172,9 @@ opens-verdict {n} {measure} {limit} {footprint} {a} o =
       ),
     )
 
-pub takes-verdict : {p : Place} {a w : List ℕ} → Takes p a w → pickVerdict p a w ≡ 0
+pub admitted-verdict : {p : Place} {a w : List ℕ} → Admitted p a w → pickVerdict p a w ≡ 0
 unfolding pickVerdict
-takes-verdict {p} {a} {w} t =
+admitted-verdict {p} {a} {w} t =
     let n = p .settings .boards in
     let l = p .settings .limit in
     let m = p .window .taken .0 in
@@ -206,12 +183,12 @@ takes-verdict {p} {a} {w} t =
       (
         F→≡ (leb l m) (λ x. let y = leb→le l m x in let z = t .below in omega arith),
         (
-          passes (eqb (length w) n) (eq-refl (t .shape)),
+          not-of-true (eqb (length w) n) (eq-refl (t .shape)),
           (
-            passes (clean n w) (t .clean),
+            not-of-true (clean n w) (t .clean),
             (
               long-enough (length a) (needed (p .settings .measure) n l) (t .room),
-              (two-passes (p .settings .measure) (listed n (part n a (l + 3)) w) (t .listed), tt),
+              (two-passes (p .settings .measure) (listed n (tableAt (kit (p .settings .measure) n) a (l + 3)) w) (t .listed), tt),
             ),
           ),
         ),
@@ -220,7 +197,7 @@ takes-verdict {p} {a} {w} t =
 
 -- words for a whole number of picks, one at least
 pub whole-picks : (x n : ℕ) → x ≡ x / n * n → not (eqb (x % n) 0) ≡ false
-whole-picks x n e = let d = div-add-mod' x n in let z : x % n ≡ 0 = omega arith in passes (eqb (x % n) 0) (eq-refl z)
+whole-picks x n e = let d = div-add-mod' x n in let z : x % n ≡ 0 = omega arith in not-of-true (eqb (x % n) 0) (eq-refl z)
 
 pub some-picks : (m : ℕ) → 1 ≤ m → eqb m 0 ≡ false
 some-picks m h = F→≡ (eqb m 0) (λ t. let z = eqb→eq m 0 t in omega arith)
@@ -244,7 +221,7 @@ runs-verdict n measure w a o =
               l .1 .1 .0,
               (
                 long-enough (length a) (needed measure n (length w / n)) (o .room),
-                (passes (cleanPicks n w (length w / n)) (o .clean), tt),
+                (not-of-true (cleanPicks n w (length w / n)) (o .clean), tt),
               ),
             ),
           ),

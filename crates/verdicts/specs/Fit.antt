@@ -6,10 +6,9 @@ use lib.Dec.{T}
 use lib.ListN.{length}
 use Rattle.checks.specs.Checks.{clean, listed}
 use Rattle.checks.specs.Lent.{cleanPicks}
-use Rattle.area.specs.Parts.{part}
 use Rattle.place.specs.declared.Place.{Place}
 use Rattle.place.specs.Places.{Sound}
-use Rattle.verdicts.specs.Verdicts.{needed}
+use Rattle.verdicts.specs.Verdicts.{needed, footprintIn}
 
 -- of the area that a walk starts from
 pub record Clears (n measure limit : ℕ) (footprint a : List ℕ) : Type 0 where
@@ -31,13 +30,13 @@ pub record Opens (n measure limit : ℕ) (footprint a : List ℕ) : Type 0 where
   pub clean : measure ≡ 2 → T (clean n footprint)
 
 -- of a pick
-pub record Takes (p : Place) (a w : List ℕ) : Type 0 where
+pub record Admitted (p : Place) (a w : List ℕ) : Type 0 where
   pub sound : Sound p
   pub below : p .window .taken .0 < p .settings .limit
   pub shape : length w ≡ p .settings .boards
   pub clean : T (clean (p .settings .boards) w)
   pub room : needed (p .settings .measure) (p .settings .boards) (p .settings .limit) ≤ length a
-  pub listed : p .settings .measure ≡ 2 → T (listed (p .settings .boards) (part (p .settings .boards) a (p .settings .limit + 3)) w)
+  pub listed : p .settings .measure ≡ 2 → T (listed (p .settings .boards) (footprintIn p a) w)
 
 -- of a whole run; m picks are lent
 pub record Runs (n measure m : ℕ) (w a : List ℕ) : Type 0 where

@@ -8,16 +8,16 @@ use Rattle.model.specs.Causes.{between, Causes, firstOf}
 use Rattle.model.specs.Refusals.{number}
 use Rattle.checks.specs.Checks.{clean, listed}
 use Rattle.checks.specs.Lent.{cleanPicks}
-use Rattle.measures.specs.Kit.{widthOf}
-use Rattle.area.specs.Parts.{part}
+use Rattle.measures.specs.Kit.{kit}
+use Rattle.area.specs.Parts.{widthOf, tableAt}
 use Rattle.place.specs.declared.Place.{Place}
 use Rattle.place.specs.Places.{soundPlace}
 use Rattle.verdicts.specs.declared.Verdict.{Verdict}
-use Rattle.verdicts.specs.declared.Verdict.the-variants.{Sound, Refuse}
+use Rattle.verdicts.specs.declared.Verdict.the-variants.{Clear, Refuse}
 
 -- the number of the first cause, 0 for none
 abbrev pub verdictSays : Verdict → ℕ
-verdictSays Sound = 0
+verdictSays Clear = 0
 verdictSays (Refuse c) = number c
 
 -- the words that the area needs
@@ -39,6 +39,10 @@ openCauses n measure limit footprint a =
     ∷ (ltb (length a) (needed measure n limit), 4)
     ∷ []
 
+-- the footprint that is found in part limit + 3
+abbrev pub footprintIn : Place → List ℕ → List ℕ
+footprintIn p a = tableAt (kit (p .settings .measure) (p .settings .boards)) a (p .settings .limit + 3)
+
 -- pick: 16, 7, 10, 5, 4, 6
 abbrev pub pickCauses : Place → List ℕ → List ℕ → Causes
 pickCauses p a w =
@@ -47,7 +51,7 @@ pickCauses p a w =
     ∷ (not (eqb (length w) (p .settings .boards)), 10)
     ∷ (not (clean (p .settings .boards) w), 5)
     ∷ (ltb (length a) (needed (p .settings .measure) (p .settings .boards) (p .settings .limit)), 4)
-    ∷ (eqb (p .settings .measure) 2 && not (listed (p .settings .boards) (part (p .settings .boards) a (p .settings .limit + 3)) w), 6)
+    ∷ (eqb (p .settings .measure) 2 && not (listed (p .settings .boards) (footprintIn p a) w), 6)
     ∷ []
 
 -- what a whole run of m picks is asked after that: 4, 5

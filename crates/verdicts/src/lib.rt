@@ -5,7 +5,8 @@ ghost use Prim.Native.Nat.{_+_, _*_, _≤_};
 ghost use lib.ListN.{length};
 ghost use lib.Dec.{ltb};
 ghost use Rattle.checks.specs.Checks.{listed};
-ghost use Rattle.area.specs.Parts.{part};
+ghost use Rattle.measures.specs.Kit.{kit};
+ghost use Rattle.area.specs.Parts.{tableAt};
 ghost use Rattle.model.specs.Causes.{firstOf};
 ghost use Rattle.verdicts.specs.Verdicts.{needed, lentCauses, runCauses, openVerdict, pickVerdict, wholeVerdict, verdictSays};
 use model::Refusal;
@@ -13,7 +14,7 @@ use place::Place;
 
 // What the checks of a call find.
 pub enum Verdict {
-    Sound,
+    Clear,
     Refuse(Refusal),
 }
 
@@ -22,7 +23,7 @@ pub fn needed_words(measure: usize, n: usize, limit: usize) -> usize
     requires { ⌜ (n ≤ 32) × (limit ≤ 4096) ⌝ }
     ensures { λ r. ⌜ r ≡ needed measure n limit ⌝ }
 {
-    let e = measures::width(measure, n);
+    let e = area::width(measure, n);
     (limit + 4) * e
 }
 
@@ -49,7 +50,7 @@ pub fn lent_verdict(words: &[u32], n: usize) -> Verdict
     if 4096 < m {
         return Verdict::Refuse(Refusal::Picks);
     }
-    Verdict::Sound
+    Verdict::Clear
 }
 
 // ---- opening
@@ -61,7 +62,7 @@ fn room_verdict(area: &[u32], measure: usize, n: usize, limit: usize) -> Verdict
     if is_short(area, measure, n, limit) {
         return Verdict::Refuse(Refusal::Room);
     }
-    Verdict::Sound
+    Verdict::Clear
 }
 
 // The causes of an opening, in their order: 1, 2, 3, 10, 5, 4. Only measure 2 has a footprint.
@@ -98,11 +99,12 @@ pub fn open_verdict(
 // ---- pick
 
 // Whether the footprint in part limit + 3 has every link of a pick.
-fn is_listed(area: &[u32], words: &[u32], n: usize, limit: usize) -> bool
-    requires { ⌜ (n ≤ 32) × ((limit ≤ 4096) × ((n ≡ length (now words)) × ((limit + 4) * n ≤ length (now area)))) ⌝ }
-    ensures { λ r. ⌜ r ≡ listed n (part n (now (area .entry)) (limit + 3)) (now (words .entry)) ⌝ }
+fn is_listed(area: &[u32], words: &[u32], measure: usize, n: usize, limit: usize) -> bool
+    requires { ⌜ (n ≤ 32) × (limit ≤ 4096) × (measure ≡ 2) × (n ≡ length (now words)) × (needed measure n limit ≤ length (now area)) ⌝ }
+    ensures { λ r. ⌜ r ≡ listed n (tableAt (kit measure n) (now (area .entry)) (limit + 3)) (now (words .entry)) ⌝ }
 {
-    let at = (limit + 2) * n;
+    let e = area::width(measure, n);
+    let at = (limit + 2) * e;
     checks::is_listed(&area[at..at + n], words, n)
 }
 
@@ -129,12 +131,12 @@ pub fn pick_verdict(p: Place, area: &[u32], words: &[u32]) -> Verdict
         return Verdict::Refuse(Refusal::Room);
     }
     if measure != 2 {
-        return Verdict::Sound;
+        return Verdict::Clear;
     }
-    if !is_listed(area, words, n, limit) {
+    if !is_listed(area, words, measure, n, limit) {
         return Verdict::Refuse(Refusal::Unlisted);
     }
-    Verdict::Sound
+    Verdict::Clear
 }
 
 // ---- whole run
@@ -150,7 +152,7 @@ fn run_verdict(n: usize, measure: usize, words: &[u32], m: usize, area: &[u32]) 
     if !checks::are_clean(words, n, m) {
         return Verdict::Refuse(Refusal::Forbidden);
     }
-    Verdict::Sound
+    Verdict::Clear
 }
 
 // The causes of a whole run, in their order: 1, 2, 10, 8, 3, 4, 5.
@@ -164,7 +166,7 @@ pub fn whole_verdict(n: usize, measure: usize, words: &[u32], area: &[u32]) -> V
         return Verdict::Refuse(Refusal::Measure);
     }
     match lent_verdict(words, n) {
-        Verdict::Sound => run_verdict(n, measure, words, words.len() / n, area),
+        Verdict::Clear => run_verdict(n, measure, words, words.len() / n, area),
         Verdict::Refuse(c) => Verdict::Refuse(c),
     }
 }

@@ -1,59 +1,38 @@
 -- `area::compose_own` meets its contract, measure by measure.
 -- Assumes nothing.
-use mathlib.Core.Path.{sym, _∙_}
-use Rattle.measures.proofs.Words.{width-times, width-links}
-use Rattle.area.proofs.Lent.{has-at, onto-times, onto-reach, onto-own}
+use mathlib.Core.Path.{_∙_, sym}
+use Rattle.measures.proofs.Words.{size-links}
+use Rattle.area.proofs.Lent.{onto-own}
 use borrow.Author.Needs.{needs}
 use Rattle.area.proofs.compose_own.Statement.{statement}
 use Rattle.area.proofs.compose_own.Tie as tie
 
 compose-times-requires : tie.Need-compose-times-requires
 compose-times-requires c κs =
-    let c6 = c .before .before .before .before .before .before in
-    let h = c6 .pre in
-    let q = sym (width-times (c6 .args .measure) (c6 .args .n) (c .before .before .if1 .taken)) in
-    (h .0, q ∙ h .1, has-at q (h .2), has-at q (h .3))
+    let h = c .before .before .before .before .before .before .pre in
+    let e = c .before .before .if1 .taken in (h .0, rw e at (h .1), rw e at (h .2), rw e at (h .3))
 
 returns : tie.Need-returns
-returns c =
-    let c4 = c .before .before .before .before in
-    let c7 = c4 .before .before .before in
-    c4 .compose-times .ensures ∙ onto-times _ _ _ _ _ (c7 .if1 .taken)
+returns c = rw (c .before .before .before .before .before .before .before .if1 .taken) (c .before .before .before .before .compose-times .ensures)
 
 compose-links-requires : tie.Need-compose-links-requires
 compose-links-requires c κs =
-    let c3 = c .before .before .before in
-    let c7 = c3 .before .before .before .before in
-    let h = c7 .pre in
-    let q = sym (width-links (c7 .args .measure) (c7 .args .n) (c3 .if1 .left)) in
-    (h .0, q ∙ h .1, has-at q (h .2), has-at q (h .3))
+    let h = c .before .before .before .before .before .before .before .pre in
+    let e = c .before .before .if2 .taken in (h .0, sym (size-links _ _ (c .before .before .before .if1 .left)) ∙ h .1, rw e at (h .2), rw e at (h .3))
 
 returns-2 : tie.Need-returns-2
-returns-2 c =
-    let c4 = c .before .before .before .before in
-    let c7 = c4 .before .before .before in
-    c4 .compose-links .ensures ∙ onto-reach _ _ _ _ _ (c7 .if2 .taken)
-
-compose-with-requires : tie.Need-compose-with-requires
-compose-with-requires c κs =
-    let c6 = c .before .before .before .before .before .before in
-    let h = c6 .pre in (
-      c .before .before .if1 .left,
-      c .before .if2 .left,
-      search needs,
-      has-at (sym (width-links (c6 .args .measure) (c6 .args .n) (c .before .before .if1 .left))) (h .2),
-    )
+returns-2 c = rw (c .before .before .before .before .before .before .before .if2 .taken) (c .before .before .before .before .compose-links .ensures)
 
 returns-3 : tie.Need-returns-3
 returns-3 c =
     let c4 = c .before .before .before .before in
     let c5 = c4 .before in
     let c9 = c5 .before .before .before .before in
-    c .before .before .compose-with .ensures ∙ onto-own _ _ _ _ _ _ (c5 .if1 .left) (c4 .if2 .left) (c9 .pre .5)
+    c .before .before .compose-with .ensures ∙ onto-own _ _ _ _ _ _ _ (c5 .if1 .left) (c4 .if2 .left) (c9 .pre .5)
 
 pub compose-own-spec : {M : Type 1} → statement M
 compose-own-spec =
     tie.close
     (tie.spec
-    compose-times-requires (search needs) (search needs) returns compose-links-requires (search needs) (search needs) returns-2 compose-with-requires
+    compose-times-requires (search needs) (search needs) returns compose-links-requires (search needs) (search needs) returns-2 (search needs)
     (search needs) returns-3)

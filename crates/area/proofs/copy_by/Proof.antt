@@ -1,12 +1,11 @@
 -- `area::copy_by` meets its contract: what is put is the copy.
 -- Assumes nothing.
-use mathlib.Core.Path.{_∙_}
 use borrow.Author.Needs.{needs}
 use Rattle.area.proofs.copy_by.Statement.{statement}
 use Rattle.area.proofs.copy_by.Tie as tie
 
 returns : tie.Need-returns
-returns c = c .before .before .put-part .ensures ∙ simp (c .before .before .before .before .before .before .before .take-part .ensures)
+returns c = simp (c .before .before .before .before .before .before .before .take-table .ensures) at (c .before .before .write-table .ensures)
 
 pub copy-by-spec : {M : Type 1} → statement M
 copy-by-spec =

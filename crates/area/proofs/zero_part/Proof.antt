@@ -1,10 +1,10 @@
 -- `area::zero_part` meets its contract: the part that is lent becomes zero.
 -- Assumes nothing.
-use native.Mathlib.Omega.{arith}
 use native.Mathlib.Nat.{add-sub-cancel-left}
+use native.Mathlib.Omega.{arith}
 use Rattle.lists.specs.Tab.{splice}
-use Rattle.area.specs.Parts.{zeroAt}
 use Rattle.area.proofs.Lent.{fits-at}
+use Rattle.area.specs.Parts.{zeroAt}
 use borrow.Author.Needs.{needs}
 use Rattle.area.proofs.zero_part.Statement.{statement}
 use Rattle.area.proofs.zero_part.Tie as tie

@@ -2,7 +2,7 @@
 -- Assumes nothing.
 use mathlib.Core.Path.{_∙_}
 use Rattle.lists.proofs.Zeros.{lent-length}
-use Rattle.measures.proofs.Words.{width-links}
+use Rattle.measures.proofs.Words.{size-links}
 use borrow.Author.Needs.{needs}
 use Rattle.calls.proofs.step_links.Statement.{statement}
 use Rattle.calls.proofs.step_links.Tie as tie
@@ -12,7 +12,7 @@ step-requires c κs =
     let s = c .before .before .before .before .before in
     let b = s .pre .0 .passed .able .few in (
       s .pre .0,
-      width-links (s .args .p .settings .measure) (s .args .p .settings .boards) (s .pre .1)
+      size-links (s .args .p .settings .measure) (s .args .p .settings .boards) (s .pre .1)
           ∙ lent-length _ _ _ (c .before .before .no-words .ensures) b,
     )
 

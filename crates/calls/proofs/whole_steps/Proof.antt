@@ -1,20 +1,20 @@
--- `calls::whole_steps` meets its contract. The invariant: the state is that of k steps, and `Along`.
+-- `calls::whole_steps` meets its contract. The invariant: the state is that of k steps, and `AfterPicks`.
 -- Assumes nothing.
 use mathlib.Core.Path.{_≡_, refl, sym, _∙_}
 use Prim.Native.Nat.{_-_}
 use native.Mathlib.Omega.{arith}
 use lib.ListN.{length}
-use Rattle.checks.proofs.Lent.{lent-end, lent-part}
+use Rattle.links.proofs.Picks.{lent-end, lent-part}
 use Rattle.steps.specs.Walk.{state, kitOf}
 use Rattle.steps.proofs.Fit.{lends-kept}
 use Rattle.calls.specs.Calls.{bareSteps}
-use Rattle.calls.proofs.Loops.{Along, along-start, along-takes, along-bare, along-finished, bare-none, bare-next, along-end}
+use Rattle.calls.proofs.Loops.{AfterPicks, along-start, along-takes, along-bare, along-finished, bare-none, bare-next, along-end}
 use borrow.Author.Needs.{needs}
 use Rattle.calls.proofs.whole_steps.Statement.{statement}
 use Rattle.calls.proofs.whole_steps.Tie as tie
 
 abbrev Inv-loop : tie.InvT-loop
-Inv-loop area₀ words m right₀ n q₀ k₀ area right q k = (n ≡ q₀ .settings .boards) × Along q₀ words area₀ m k q area
+Inv-loop area₀ words m right₀ n q₀ k₀ area right q k = (n ≡ q₀ .settings .boards) × AfterPicks q₀ words area₀ m k q area
     × (state q area ≡ bareSteps (kitOf (q₀ .settings)) (q₀ .settings .boards) words k (state q₀ area₀)) × (length right ≡ length right₀)
 
 abbrev μ-loop : tie.MeasureT-loop

@@ -1,37 +1,34 @@
 -- `calls::whole_times` meets its contract: a table of times has n × n words twice, 2048 at most.
 -- Assumes nothing.
-use mathlib.Core.Path.{ap, _∙_}
-use native.Mathlib.Nat.{mul-le-mul}
+use mathlib.Core.Path.{ap, sym, _∙_}
+use Prim.Native.Nat.{ℕ}
 use native.Mathlib.Omega.{arith}
 use lib.ListN.{length}
-use Rattle.lists.proofs.Tab.{length-zeros}
 use Rattle.lists.proofs.Zeros.{lent-length}
-use Rattle.measures.proofs.Words.{width-times}
+use Rattle.lists.proofs.Tab.{length-zeros}
+use Rattle.measures.specs.Kit.{sizeOf}
+use Rattle.area.proofs.Lent.{size-most}
 use borrow.Author.Needs.{needs}
 use Rattle.calls.proofs.whole_times.Statement.{statement}
 use Rattle.calls.proofs.whole_times.Tie as tie
 
-mul-e : tie.Need-mul-e
-mul-e c = let b = c .before .before .pre .0 .ready .able .few in omega (arith, mul-le-mul b b)
-
-mul-e-2 : tie.Need-mul-e-2
-mul-e-2 c = let b = c .before .before .pre .0 .ready .able .few in omega (arith, mul-le-mul b b)
-
-add-e : tie.Need-add-e
-add-e c = let b = c .before .before .pre .0 .ready .able .few in omega (arith, mul-le-mul b b)
-
 part-right-end : tie.Need-part-right-end
 part-right-end c =
-    let c4 = c .before .before .before .before in
-    let b = c4 .pre .0 .ready .able .few in omega (arith, mul-le-mul b b, ap length (c .before .no-times .ensures) ∙ length-zeros 2048)
+    omega (
+      arith,
+      c .before .before .size .ensures,
+      size-most 4 _ (c .before .before .before .before .before .pre .0 .ready .able .few),
+      ap length (c .before .no-times .ensures) ∙ length-zeros 2048,
+    )
 
 whole-steps-requires : tie.Need-whole-steps-requires
 whole-steps-requires c κs =
-    let s = c .before .before .before .before .before in
-    let b = s .pre .0 .ready .able .few in (
+    let s = c .before .before .before .before .before .before in
+    let k = c .before .before .before .size .ensures in
+    let few = size-most 4 (s .args .p .settings .boards) (s .pre .0 .ready .able .few) in (
       s .pre .0,
-      width-times (s .args .p .settings .measure) (s .args .p .settings .boards) (s .pre .1)
-          ∙ lent-length _ _ _ (c .before .before .no-times .ensures) (omega (arith, mul-le-mul b b)),
+      ap (λ (m : ℕ). sizeOf m (s .args .p .settings .boards)) (s .pre .1) ∙ sym k
+          ∙ lent-length _ _ _ (c .before .before .no-times .ensures) (omega arith),
     )
 
 returns : tie.Need-returns
@@ -39,4 +36,4 @@ returns c = search needs
 
 pub whole-times-spec : {M : Type 1} → statement M
 whole-times-spec =
-    tie.close (tie.spec mul-e mul-e-2 add-e (search needs) (search needs) (search needs) part-right-end whole-steps-requires (search needs) returns)
+    tie.close (tie.spec (search needs) (search needs) (search needs) (search needs) part-right-end whole-steps-requires (search needs) returns)

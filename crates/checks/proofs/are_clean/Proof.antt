@@ -13,13 +13,13 @@ part-is-listed-end-2 : tie.Need-part-is-listed-end-2
 part-is-listed-end-2 c =
     let u = c .before .before .before .before in
     let z = u .before .before in
-    union-room _ _ _ _ _ (z .before .before .before .pre .0) (z .no-words .ensures) (u .unite-all .ensures)
+    union-room _ _ _ _ _ (z .before .before .before .pre .0) (z .no-words .ensures) (u .unite-picks .ensures .1)
 
 is-listed-requires : tie.Need-is-listed-requires
 is-listed-requires c κs =
     let u = c .before .before .before .before .before in
     let z = u .before .before in
-    (search needs, union-lent-room _ _ _ _ _ (z .before .before .before .pre .0) (z .no-words .ensures) (u .unite-all .ensures))
+    (search needs, union-lent-room _ _ _ _ _ (z .before .before .before .pre .0) (z .no-words .ensures) (u .unite-picks .ensures .1))
 
 returns : tie.Need-returns
 returns c =
@@ -27,7 +27,7 @@ returns c =
     let z = u .before .before in
     let a = z .before .before .before in
     let rows = lent-first _ (length-open _) (z .before .all-open .ensures) in
-    let any = union-lent _ _ _ _ _ (a .pre .0) (z .no-words .ensures) (u .unite-all .ensures) in
+    let any = union-lent _ _ _ _ _ (a .pre .0) (z .no-words .ensures) (u .unite-picks .ensures .1) in
     c .is-listed .ensures ∙ ap₂ (listed (a .args .n)) rows any ∙ listed-united _ _ _ _ ∙ listed-clean-picks _ _ _ (a .pre .0)
 
 pub are-clean-spec : {M : Type 1} → statement M

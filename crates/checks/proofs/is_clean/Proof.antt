@@ -1,4 +1,4 @@
--- `checks::is_clean` meets its contract: the bits gathered are none exactly when each word so far is clean (`gather`).
+-- `checks::is_clean` meets its contract: the bits gathered are none exactly when each word so far is clean (`bad-turn`).
 -- Assumes nothing.
 use mathlib.Core.Path.{_≡_, sym}
 use Prim.Native.Nat.{_-_, _^_, _≤_, _<_}
@@ -9,7 +9,7 @@ use lib.Dec.{eqb}
 use Rattle.lists.specs.Tab.{every}
 use Rattle.lists.proofs.Tab.{every-none}
 use Rattle.links.specs.Tables.{without}
-use Rattle.links.proofs.Gather.{gather}
+use Rattle.links.proofs.Gather.{bad-turn}
 use Rattle.checks.specs.Checks.{allowed, cleanRow, clean}
 use Rattle.checks.proofs.AllOpen.{clean-word}
 use borrow.Author.Needs.{needs}
@@ -33,7 +33,7 @@ loop-again c =
     let w = c3 .before .before .before .args .words .now in
     let hw : getD w u 0 < 2 ^ 32 = omega (arith, c .before .shared-slice-known2 .given u) in
     let bits = bitAnd (getD w u 0) (2 ^ 32 - 1 - without (allowed n) u) in
-    let turn = gather (cleanRow n w) u (c3 .loop .bad) bits (c3 .loop .inv .1) (clean-word n w u (c3 .before .before .before .pre .0)
+    let turn = bad-turn (cleanRow n w) u (c3 .loop .bad) bits (c3 .loop .inv .1) (clean-word n w u (c3 .before .before .before .pre .0)
     (c .before .before .loop-test .taken) hw) in
     (search needs, simp (c .cleared .ensures, c3 .before .allowed-bits .ensures) turn)
 

@@ -1,4 +1,4 @@
--- `checks::is_listed` meets its contract: the bits gathered are none exactly when each word so far is listed (`gather`).
+-- `checks::is_listed` meets its contract: the bits gathered are none exactly when each word so far is listed (`bad-turn`).
 -- Assumes nothing.
 use mathlib.Core.Path.{_≡_, sym}
 use Prim.Native.Nat.{_-_, _^_, _≤_, _<_}
@@ -8,7 +8,7 @@ use lib.Dec.{eqb}
 use lib.ListN.{getD}
 use Rattle.lists.specs.Tab.{every}
 use Rattle.lists.proofs.Tab.{every-none}
-use Rattle.links.proofs.Gather.{gather}
+use Rattle.links.proofs.Gather.{bad-turn}
 use Rattle.checks.specs.Checks.{listedRow, listed}
 use Rattle.checks.proofs.Masks.{listed-word}
 use borrow.Author.Needs.{needs}
@@ -32,7 +32,7 @@ loop-again c =
     let w = c3 .before .args .words .now in
     let hw : getD w u 0 < 2 ^ 32 = omega (arith, c .before .shared-slice-known .given u) in
     let hl : getD l u 0 < 2 ^ 32 = omega (arith, c .shared-slice-known2 .given u) in
-    (search needs, gather (listedRow l w) u (c3 .loop .bad) (bitAnd (getD w u 0) (2 ^ 32 - 1 - getD l u 0)) (c3 .loop .inv .1) (listed-word l w u hw hl))
+    (search needs, bad-turn (listedRow l w) u (c3 .loop .bad) (bitAnd (getD w u 0) (2 ^ 32 - 1 - getD l u 0)) (c3 .loop .inv .1) (listed-word l w u hw hl))
 
 returns : tie.Need-returns Inv-loop μ-loop
 unfolding listed

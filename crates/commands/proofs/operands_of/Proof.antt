@@ -7,7 +7,7 @@ use borrow.Author.Needs.{needs}
 use lib.ListN.{drop}
 use Rattle.commands.proofs.Table.{lookup-hit, lookup-miss, lookup-end}
 use Rattle.commands.specs.declared.Shape.{Shape}
-use Rattle.commands.specs.Commands.{shapes, lookup, widthOf}
+use Rattle.commands.specs.Commands.{shapes, lookup, arityOf}
 use Rattle.commands.proofs.operands_of.Statement.{statement}
 use Rattle.commands.proofs.operands_of.Tie as tie
 
@@ -16,13 +16,13 @@ abbrev none : Shape
 none = record { byte = 0; operands = 0 }
 
 abbrev Inv-loop : tie.InvT-loop
-Inv-loop byte i₀ i = (i ≤ 5) × (lookup (drop i shapes) byte ≡ widthOf byte)
+Inv-loop byte i₀ i = (i ≤ 5) × (lookup (drop i shapes) byte ≡ arityOf byte)
 
 abbrev μ-loop : tie.MeasureT-loop
 μ-loop byte i₀ i = 5 - i
 
 loop-holds : tie.Need-loop-holds Inv-loop μ-loop
-unfolding widthOf
+unfolding arityOf
 loop-holds c = (search needs, refl)
 
 returns : tie.Need-returns Inv-loop μ-loop

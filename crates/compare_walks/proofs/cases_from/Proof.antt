@@ -4,8 +4,8 @@ use mathlib.Core.Path.{_≡_}
 use lib.ListN.{length}
 use Prim.Native.Nat.{_-_}
 use native.Mathlib.Omega.{arith}
-use Rattle.checks.proofs.Lent.{lent-end}
-use Rattle.naive_walk.specs.Kept.{Kept}
+use Rattle.links.proofs.Picks.{lent-end}
+use Rattle.naive_walk.specs.Ranges.{BehindPick}
 use borrow.Author.Needs.{needs}
 use Rattle.compare_walks.proofs.cases_from.Statement.{statement}
 use Rattle.compare_walks.proofs.cases_from.Tie as tie
@@ -14,7 +14,7 @@ pub cases-from-spec : {M : Type 1} → statement M
 cases-from-spec =
     tie.close
     (tie.spec
-    (λ name case words area₀ n m q₀ x₀ sum₀ k₀ area q x sum k. (length area ≡ length area₀) × (Kept x × (x .m ≡ k)))
+    (λ name case words area₀ n m q₀ x₀ sum₀ k₀ area q x sum k. (length area ≡ length area₀) × (BehindPick x × (x .m ≡ k)))
     (λ name case words area₀ n m q₀ x₀ sum₀ k₀ area q x sum k. m - k)
     (search needs) (search needs)
     (λ c. omega (arith, lent-end (c .before .before .before .before .before .before .args .case .boards) (c .loop-test .taken)))

@@ -9,7 +9,7 @@ returns : tie.Need-returns
 returns c =
     let c4 = c .before .before .before .before in
     let c8 = c4 .before .before .before .before in
-    (c8 .turn .ensures, c .before .before .write-columns .ensures ∙ simp (c4 .some-rows .ensures))
+    (c8 .transpose .ensures, c .before .before .write-columns .ensures ∙ simp (c4 .some-rows .ensures))
 
 pub column-sets-spec : {M : Type 1} → statement M
 column-sets-spec =

@@ -1,6 +1,5 @@
 -- `folds::fold_over` meets its contract. The invariant is `Rowed`: a row is as it was when it takes in its fold.
 -- Assumes nothing.
-use mathlib.Core.Bool.{false}
 use mathlib.Core.Path.{_∙_}
 use Prim.Native.Nat.{_-_, _*_}
 use native.Mathlib.Omega.{arith}
@@ -14,34 +13,13 @@ use Rattle.folds.proofs.fold_over.Statement.{statement}
 use Rattle.folds.proofs.fold_over.Tie as tie
 
 abbrev Inv-loop : tie.InvT-loop
-Inv-loop half₀ folds n u₀ half u = Rowed n (λ i. joinedRow false (cell n half₀ i) (cell n folds i) i) half₀ half u
+Inv-loop half₀ folds n late u₀ half u = Rowed n (λ i. joinedRow late (cell n half₀ i) (cell n folds i) i) half₀ half u
 
 abbrev μ-loop : tie.MeasureT-loop
-μ-loop half₀ folds n u₀ half u = n - u
+μ-loop half₀ folds n late u₀ half u = n - u
 
 loop-holds : tie.Need-loop-holds Inv-loop μ-loop
 loop-holds c = rowed-start (c .before .before .pre .1 .0)
-
-mul-at : tie.Need-mul-at Inv-loop μ-loop
-mul-at c = omega (arith, row-le _ (c .loop-test .taken))
-
-add-take-fold : tie.Need-add-take-fold Inv-loop μ-loop
-add-take-fold c = omega (arith, row-le _ (c .loop-test .taken))
-
-mul-take-fold : tie.Need-mul-take-fold Inv-loop μ-loop
-mul-take-fold c = omega (arith, row-le _ (c .loop-test .taken))
-
-part-take-fold-end : tie.Need-part-take-fold-end Inv-loop μ-loop
-part-take-fold-end c = omega (arith, row-le _ (c .loop-test .taken))
-
-add-take-fold-2 : tie.Need-add-take-fold-2 Inv-loop μ-loop
-add-take-fold-2 c = omega (arith, row-le _ (c .before .loop-test .taken))
-
-mul-take-fold-2 : tie.Need-mul-take-fold-2 Inv-loop μ-loop
-mul-take-fold-2 c = omega (arith, row-le _ (c .before .loop-test .taken))
-
-part-take-fold-end-2 : tie.Need-part-take-fold-end-2 Inv-loop μ-loop
-part-take-fold-end-2 c = omega (arith, row-le _ (c .before .loop-test .taken))
 
 take-fold-requires : tie.Need-take-fold-requires Inv-loop μ-loop
 take-fold-requires c κs =
@@ -59,7 +37,7 @@ loop-again c =
     let c9 = c6 .before .before .before in
     rowed-turn (c6 .loop .inv) (c5 .loop-test .taken)
     (written-part _ _ _ (c .before .before .take-fold .ensures
-    ∙ rw (rowed-read (c6 .loop .inv)) (joined-lent false (c9 .args .n) (c6 .loop .u) (c9 .args .half .now) (c9 .args .folds .now))))
+    ∙ rw (rowed-read (c6 .loop .inv)) (joined-lent (c9 .args .late) (c9 .args .n) (c6 .loop .u) (c9 .args .half .now) (c9 .args .folds .now))))
 
 returns : tie.Need-returns Inv-loop μ-loop
 returns c = rowed-all (c .before .loop .inv) (c .loop-test .left)
@@ -68,5 +46,7 @@ pub fold-over-spec : {M : Type 1} → statement M
 fold-over-spec =
     tie.close
     (tie.spec
-    Inv-loop μ-loop loop-holds mul-at add-take-fold mul-take-fold (search needs) (search needs) part-take-fold-end add-take-fold-2 mul-take-fold-2
-    (search needs) (search needs) part-take-fold-end-2 take-fold-requires (search needs) (search needs) loop-again (search needs) returns)
+    Inv-loop μ-loop loop-holds (λ c. omega (arith, row-le _ (c .loop-test .taken))) (λ c. omega (arith, row-le _ (c .loop-test .taken)))
+    (λ c. omega (arith, row-le _ (c .loop-test .taken))) (search needs) (search needs) (λ c. omega (arith, row-le _ (c .loop-test .taken)))
+    (λ c. omega (arith, row-le _ (c .before .loop-test .taken))) (λ c. omega (arith, row-le _ (c .before .loop-test .taken))) (search needs) (search needs)
+    (λ c. omega (arith, row-le _ (c .before .loop-test .taken))) take-fold-requires (search needs) (search needs) loop-again (search needs) returns)

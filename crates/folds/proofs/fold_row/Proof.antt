@@ -13,18 +13,6 @@ returns : tie.Need-returns
 returns c = let c7 = c .before .before .before .before .before .before .before in fold-empty (c7 .args .late) (c7 .args .n) (c7 .args .later .now)
     (c .before .before .before .before .if1 .taken) (c .before .before .zero-over .ensures)
 
-mul-at : tie.Need-mul-at
-mul-at c = omega (arith, row-le _ (bit-below _ (c .before .before .before .before .pre .1 .0) (c .board-in .ensures .1)))
-
-add-copy-over : tie.Need-add-copy-over
-add-copy-over c = omega (arith, row-le _ (bit-below _ (c .before .before .before .before .before .pre .1 .0) (c .before .board-in .ensures .1)))
-
-mul-copy-over : tie.Need-mul-copy-over
-mul-copy-over c = omega (arith, row-le _ (bit-below _ (c .before .before .before .before .before .pre .1 .0) (c .before .board-in .ensures .1)))
-
-part-copy-over-end : tie.Need-part-copy-over-end
-part-copy-over-end c = omega (arith, row-le _ (bit-below _ (c .before .before .before .before .before .pre .1 .0) (c .before .board-in .ensures .1)))
-
 fold-set-requires : tie.Need-fold-set-requires
 fold-set-requires c κs =
     let c4 = c .before .before .before .before in
@@ -44,5 +32,9 @@ pub fold-row-spec : {M : Type 1} → statement M
 fold-row-spec =
     tie.close
     (tie.spec
-    (search needs) (search needs) returns (search needs) mul-at add-copy-over mul-copy-over (search needs) (search needs) part-copy-over-end
+    (search needs) (search needs) returns (search needs)
+    (λ c. omega (arith, row-le _ (bit-below _ (c .before .before .before .before .pre .1 .0) (c .board-in .ensures .1))))
+    (λ c. omega (arith, row-le _ (bit-below _ (c .before .before .before .before .before .pre .1 .0) (c .before .board-in .ensures .1))))
+    (λ c. omega (arith, row-le _ (bit-below _ (c .before .before .before .before .before .pre .1 .0) (c .before .board-in .ensures .1)))) (search needs)
+    (search needs) (λ c. omega (arith, row-le _ (bit-below _ (c .before .before .before .before .before .pre .1 .0) (c .before .board-in .ensures .1))))
     (search needs) (search needs) fold-set-requires (search needs) returns-2)

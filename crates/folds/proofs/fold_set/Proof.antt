@@ -17,18 +17,6 @@ abbrev μ-loop : tie.MeasureT-loop
 loop-holds : tie.Need-loop-holds Inv-loop μ-loop
 loop-holds c = folded-start (c .before .before .pre .1 .1 .0) (c .before .before .pre .1 .0)
 
-mul-at : tie.Need-mul-at Inv-loop μ-loop
-mul-at c = omega (arith, row-le _ (folded-below (c .before .before .loop .inv) _ (c .board-in .ensures .1)))
-
-add-fold : tie.Need-add-fold Inv-loop μ-loop
-add-fold c = omega (arith, row-le _ (folded-below (c .before .before .before .loop .inv) _ (c .before .board-in .ensures .1)))
-
-mul-fold : tie.Need-mul-fold Inv-loop μ-loop
-mul-fold c = omega (arith, row-le _ (folded-below (c .before .before .before .loop .inv) _ (c .before .board-in .ensures .1)))
-
-part-fold-end : tie.Need-part-fold-end Inv-loop μ-loop
-part-fold-end c = omega (arith, row-le _ (folded-below (c .before .before .before .loop .inv) _ (c .before .board-in .ensures .1)))
-
 fold-requires : tie.Need-fold-requires Inv-loop μ-loop
 fold-requires c κs =
     let c4 = c .before .before .before .before in
@@ -56,5 +44,8 @@ pub fold-set-spec : {M : Type 1} → statement M
 fold-set-spec =
     tie.close
     (tie.spec
-    Inv-loop μ-loop loop-holds (search needs) mul-at add-fold mul-fold (search needs) (search needs) part-fold-end fold-requires (search needs) loop-less
-    loop-again same-length returns)
+    Inv-loop μ-loop loop-holds (search needs) (λ c. omega (arith, row-le _ (folded-below (c .before .before .loop .inv) _ (c .board-in .ensures .1))))
+    (λ c. omega (arith, row-le _ (folded-below (c .before .before .before .loop .inv) _ (c .before .board-in .ensures .1))))
+    (λ c. omega (arith, row-le _ (folded-below (c .before .before .before .loop .inv) _ (c .before .board-in .ensures .1)))) (search needs) (search needs)
+    (λ c. omega (arith, row-le _ (folded-below (c .before .before .before .loop .inv) _ (c .before .board-in .ensures .1)))) fold-requires (search needs)
+    loop-less loop-again same-length returns)

@@ -21,18 +21,6 @@ returns c =
     (same-fold (c9 .args .late) (c9 .args .n) (c9 .args .later .now) (c9 .args .sets .now) (c9 .args .own .0) (c9 .args .folds .now)
     (c5 .first-same .result) (c9 .pre) (c .before .before .before .before .if1 .taken) (c5 .first-same .ensures .1))
 
-mul-at : tie.Need-mul-at
-mul-at c = let p = c .before .before .before .before .before .pre in omega (arith, row-le _ (p .below), p .room)
-
-add-fold-row : tie.Need-add-fold-row
-add-fold-row c = let p = c .before .before .before .before .before .pre in omega (arith, row-le _ (p .below), p .room)
-
-mul-fold-row : tie.Need-mul-fold-row
-mul-fold-row c = let p = c .before .before .before .before .before .pre in omega (arith, row-le _ (p .below), p .room)
-
-part-fold-row-end : tie.Need-part-fold-row-end
-part-fold-row-end c = let p = c .before .before .before .before .before .pre in omega (arith, row-le _ (p .below), p .room)
-
 returns-2 : tie.Need-returns-2
 returns-2 c = written-part _ _ _ (c .before .before .fold-row .ensures)
 
@@ -40,5 +28,9 @@ pub write-fold-spec : {M : Type 1} → statement M
 write-fold-spec =
     tie.close
     (tie.spec
-    (search needs) (search needs) (search needs) returns mul-at add-fold-row mul-fold-row (search needs) (search needs) part-fold-row-end (search needs)
-    (search needs) (search needs) (search needs) returns-2)
+    (search needs) (search needs) (search needs) returns
+    (λ c. let p = c .before .before .before .before .before .pre in omega (arith, row-le _ (p .below), p .room))
+    (λ c. let p = c .before .before .before .before .before .pre in omega (arith, row-le _ (p .below), p .room))
+    (λ c. let p = c .before .before .before .before .before .pre in omega (arith, row-le _ (p .below), p .room)) (search needs) (search needs)
+    (λ c. let p = c .before .before .before .before .before .pre in omega (arith, row-le _ (p .below), p .room)) (search needs) (search needs) (search needs)
+    (search needs) returns-2)

@@ -2,6 +2,7 @@
 -- Assumes nothing.
 use mathlib.Core.Path.{_∙_, ap, sym}
 use Prim.Native.Nat.{zero-le}
+use Rattle.model.specs.Journey.{mostLinks}
 use Rattle.lists.specs.Tab.{splice}
 use Rattle.lists.proofs.Splice.{splice-again, written-first, lent-first}
 use Rattle.links.specs.Tables.{within}
@@ -15,7 +16,7 @@ returns c =
     let n = start .args .n in
     let size = sym (start .pre .1) in
     let t = c .before .before .before .load .ensures in
-    written-first n _ (c .before .close .ensures ∙ ap (within n 31) (lent-first _ size t)) ∙ ap (splice 0 n _) t ∙ splice-again 0 n _ _ size zero-le _
+    written-first n _ (c .before .close .ensures ∙ ap (within n mostLinks) (lent-first _ size t)) ∙ ap (splice 0 n _) t ∙ splice-again 0 n _ _ size zero-le _
 
 pub closed-words-spec : {M : Type 1} → statement M
 closed-words-spec =

@@ -12,7 +12,7 @@ use Rattle.lengths_text.proofs.put_lengths.Tie as tie
 mul-total : tie.Need-mul-total
 mul-total c = let b = c .before in
     let g = read-law _ _ _ _ _ (sym (b .before .before .before .read .ensures .0) ∙ ap readingSays (b .boards .given .1)) in
-    omega (arith, g .room-for, g .long, b .before .before .before .before .before .before .before .before .before .before .no-words .ensures .1)
+    omega (arith, g .room-for, g .long, b .before .before .before .before .before .before .before .before .before .before .no-picks .ensures .1)
 
 part-put-measures-end : tie.Need-part-put-measures-end
 part-put-measures-end c = let b = c .before .before .before in
@@ -34,7 +34,7 @@ returns c = let m = c .before .before in
     let s = w .before .before .before in
     let z = both-read _ _ _ _ _ _ _ (t .put-text .ensures) (m .put-measures .ensures .0) in (
       omega (arith, m .put-measures .ensures .1, m .put-measures .kept .0, t .put-text .ensures .behind, t .put-text .kept .0, s .pre),
-      z .0 ∙ of-read _ _ (w .no-words .ensures .0) _ _ _ (sym (r .read .ensures .0) ∙ ap readingSays (b .boards .given .1)) (r .read .ensures .1),
+      z .0 ∙ of-read _ _ (w .no-picks .ensures .0) _ _ _ (sym (r .read .ensures .0) ∙ ap readingSays (b .boards .given .1)) (r .read .ensures .1),
       z .1,
     )
 
@@ -48,7 +48,7 @@ returns-2 c = let l = c .before .before in
     let s = w .before .before .before in
     let z = both-read _ _ _ _ _ _ _ (t .put-text .ensures) (rw (n .number-of .ensures) at (l .put-line .ensures .0)) in (
       omega (arith, l .put-line .ensures .1, l .put-line .kept .0, t .put-text .ensures .behind, t .put-text .kept .0, s .pre),
-      z .0 ∙ of-refused _ _ (w .no-words .ensures .0) (b .r .given .0 .0) (sym (r .read .ensures .0) ∙ ap readingSays (b .r .given .1)),
+      z .0 ∙ of-refused _ _ (w .no-picks .ensures .0) (b .r .given .0 .0) (sym (r .read .ensures .0) ∙ ap readingSays (b .r .given .1)),
       z .1,
     )
 

@@ -1,4 +1,4 @@
--- `links::is_same` meets its contract: the bits gathered are none exactly when each word so far is the same (`gather-same`).
+-- `links::is_same` meets its contract: the bits gathered are none exactly when each word so far is the same (`bad-turn-same`).
 -- Assumes nothing.
 use mathlib.Core.Path.{_≡_, refl, sym}
 use Prim.Native.Nat.{_-_, _≤_}
@@ -6,7 +6,7 @@ use native.Mathlib.Omega.{arith}
 use lib.Dec.{eqb}
 use Rattle.lists.specs.Tab.{every}
 use Rattle.lists.proofs.Tab.{every-none}
-use Rattle.links.proofs.Gather.{gather-same}
+use Rattle.links.proofs.Gather.{bad-turn-same}
 use Rattle.links.specs.Tables.{rowSame, same}
 use borrow.Author.Needs.{needs}
 use Rattle.links.proofs.is_same.Statement.{statement}
@@ -22,7 +22,7 @@ loop-holds : tie.Need-loop-holds Inv-loop μ-loop
 loop-holds c = (search needs, sym (every-none _))
 
 loop-again : tie.Need-loop-again Inv-loop μ-loop
-loop-again c = (search needs, gather-same _ _ _ (c .before .before .before .loop .bad) _ (c .before .before .before .loop .inv .1) refl)
+loop-again c = (search needs, bad-turn-same _ _ _ (c .before .before .before .loop .bad) _ (c .before .before .before .loop .inv .1) refl)
 
 returns : tie.Need-returns Inv-loop μ-loop
 unfolding same

@@ -6,7 +6,7 @@ use native.Mathlib.Omega.{arith}
 use lib.Dec.{eqb}
 use Rattle.lists.specs.Tab.{every}
 use Rattle.lists.proofs.Tab.{every-none, getD-tab}
-use Rattle.links.proofs.Gather.{gather-same}
+use Rattle.links.proofs.Gather.{bad-turn-same}
 use Rattle.links.specs.Tables.{eitherRow, union, rowSame, same}
 use borrow.Author.Needs.{needs}
 use Rattle.links.proofs.is_union.Statement.{statement}
@@ -26,7 +26,7 @@ unfolding union eitherRow
 loop-again c =
     let c3 = c .before .before .before in
     let c4 = c3 .before in
-    (search needs, gather-same _ _ _ (c4 .loop .bad) _ (c4 .loop .inv .1) (sym (getD-tab _ _ _ (c3 .loop-test .taken))))
+    (search needs, bad-turn-same _ _ _ (c4 .loop .bad) _ (c4 .loop .inv .1) (sym (getD-tab _ _ _ (c3 .loop-test .taken))))
 
 returns : tie.Need-returns Inv-loop μ-loop
 unfolding same

@@ -3,7 +3,7 @@
 use native.Mathlib.Omega.{arith}
 use borrow.Author.Tests.{eq-eqb, ne-eqb}
 use Rattle.measures.specs.Kit.{ownOf}
-use Rattle.measures.proofs.Words.{width-times, width-links}
+use Rattle.measures.proofs.Words.{size-times, size-links}
 use borrow.Author.Needs.{needs}
 use Rattle.measures.proofs.own.Statement.{statement}
 use Rattle.measures.proofs.own.Tie as tie
@@ -11,7 +11,7 @@ use Rattle.measures.proofs.own.Tie as tie
 own-times-requires : tie.Need-own-times-requires
 own-times-requires c κs =
     let c4 = c .before .before .before .before in
-    let w = width-times _ (c4 .args .n) (c .before .if1 .taken) in (search needs, (search needs, (omega arith, search needs)))
+    let w = size-times _ (c4 .args .n) (c .before .if1 .taken) in (search needs, (search needs, (omega arith, search needs)))
 
 returns : tie.Need-returns
 unfolding ownOf
@@ -20,7 +20,7 @@ returns c = simp (eq-eqb _ _ (c .before .before .before .before .if1 .taken)) (c
 close-over-requires : tie.Need-close-over-requires
 close-over-requires c κs =
     let c5 = c .before .before .before .before .before in
-    let w = width-links _ (c5 .args .n) (c .before .before .if1 .left) in (search needs, (omega arith, search needs))
+    let w = size-links _ (c5 .args .n) (c .before .before .if1 .left) in (search needs, (omega arith, search needs))
 
 returns-2 : tie.Need-returns-2
 unfolding ownOf
@@ -32,7 +32,7 @@ returns-2 c =
 copy-over-requires : tie.Need-copy-over-requires
 copy-over-requires c κs =
     let c5 = c .before .before .before .before .before in
-    let w = width-links _ (c5 .args .n) (c .before .before .if1 .left) in (omega arith, search needs)
+    let w = size-links _ (c5 .args .n) (c .before .before .if1 .left) in (omega arith, search needs)
 
 returns-3 : tie.Need-returns-3
 unfolding ownOf

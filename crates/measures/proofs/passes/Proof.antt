@@ -3,20 +3,20 @@
 use native.Mathlib.Omega.{arith}
 use borrow.Author.Tests.{eq-eqb, ne-eqb}
 use Rattle.measures.specs.Kit.{passOf}
-use Rattle.measures.proofs.Words.{width-times, width-links}
+use Rattle.measures.proofs.Words.{size-times, size-links}
 use borrow.Author.Needs.{needs}
 use Rattle.measures.proofs.passes.Statement.{statement}
 use Rattle.measures.proofs.passes.Tie as tie
 
 in-time-requires : tie.Need-in-time-requires
-in-time-requires c κs = let w = width-times _ (c .before .before .before .args .n) (c .if1 .taken) in (search needs, omega arith)
+in-time-requires c κs = let w = size-times _ (c .before .before .before .args .n) (c .if1 .taken) in (search needs, omega arith)
 
 returns : tie.Need-returns
 unfolding passOf
 returns c = simp (eq-eqb _ _ (c .before .if1 .taken)) (c .in-time .ensures)
 
 is-full-requires : tie.Need-is-full-requires
-is-full-requires c κs = let w = width-links _ (c .before .before .before .before .args .n) (c .before .if1 .left) in (search needs, omega arith)
+is-full-requires c κs = let w = size-links _ (c .before .before .before .before .args .n) (c .before .if1 .left) in (search needs, omega arith)
 
 returns-2 : tie.Need-returns-2
 unfolding passOf
@@ -25,7 +25,7 @@ returns-2 c = simp (ne-eqb _ _ (c .before .before .if1 .left), eq-eqb _ _ (c .be
 is-same-requires : tie.Need-is-same-requires
 is-same-requires c κs =
     let c5 = c .before .before .before .before .before in
-    let w = width-links _ (c5 .args .n) (c .before .before .if1 .left) in (search needs, omega arith)
+    let w = size-links _ (c5 .args .n) (c .before .before .if1 .left) in (search needs, omega arith)
 
 returns-3 : tie.Need-returns-3
 unfolding passOf
@@ -36,7 +36,7 @@ returns-3 c =
 is-connected-requires : tie.Need-is-connected-requires
 is-connected-requires c κs =
     let c5 = c .before .before .before .before .before in
-    let w = width-links _ (c5 .args .n) (c .before .before .if1 .left) in (search needs, omega arith)
+    let w = size-links _ (c5 .args .n) (c .before .before .if1 .left) in (search needs, omega arith)
 
 returns-4 : tie.Need-returns-4
 unfolding passOf

@@ -1,15 +1,15 @@
--- `naive_walk::climbed` meets its contract. The loop's invariant: k rises have spent at most 4,097 k compositions and k tests.
+-- `naive_walk::climbed` meets its contract. The loop's invariant: k rises have spent at most `mostPerRise` k compositions and k tests.
 -- Assumes nothing.
 use Prim.Native.Nat.{_*_, _-_, _≤_, _<_}
 use borrow.Author.Needs.{needs}
 use borrow.Author.Tests.{ltb-true}
-use Rattle.naive_walk.specs.Kept.{Spends}
+use Rattle.naive_walk.specs.Ranges.{mostPerRise, Spends}
 use Rattle.naive_walk.proofs.climbed.Statement.{statement}
 use Rattle.naive_walk.proofs.climbed.Tie as tie
 
 abbrev Inv-loop : tie.InvT-loop
 Inv-loop words n picks measure y₀ y =
-    (y₀ .s ≤ y .s) × ((y .s ≤ y .m) × Spends (y .s - y₀ .s) (4097 * (y .s - y₀ .s)) (y .s - y₀ .s) y₀ y)
+    (y₀ .s ≤ y .s) × ((y .s ≤ y .m) × Spends (y .s - y₀ .s) (mostPerRise * (y .s - y₀ .s)) (y .s - y₀ .s) y₀ y)
 
 abbrev μ-loop : tie.MeasureT-loop
 μ-loop words n picks measure y₀ y = y .m - y .s

@@ -4,6 +4,7 @@ use mathlib.Core.Path.{ap, _∙_}
 use Rattle.lists.proofs.Splice.{lent-first}
 use Rattle.links.specs.Tables.{compose}
 use Rattle.links.proofs.Ways.{length-within}
+use Rattle.measures.specs.Kit.{hops01}
 use borrow.Author.Needs.{needs}
 use Rattle.reach.proofs.add_pick.Statement.{statement}
 use Rattle.reach.proofs.add_pick.Tie as tie
@@ -13,7 +14,7 @@ returns c =
     let start = c .before .before .before .before .before .before .before .before .before in
     c .before .before .join-over .ensures
     ∙ ap (compose (start .args .n) (start .args .out .now))
-    (lent-first _ (length-within _ 31 _) (c .before .before .before .before .before .before .closed-words .ensures))
+    (lent-first _ (length-within _ hops01 _) (c .before .before .before .before .before .before .closed-words .ensures))
 
 pub add-pick-spec : {M : Type 1} → statement M
 add-pick-spec =

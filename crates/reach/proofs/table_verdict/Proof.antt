@@ -1,9 +1,9 @@
 -- `reach::table_verdict` meets its contract. Assumes nothing.
 use Rattle.reach.specs.Tables.{tableVerdict}
-use Rattle.verdicts.proofs.Verdicts.{between-says, passed-by, failed-by, holds-by, lent-sound}
+use Rattle.verdicts.proofs.Verdicts.{passed-by, failed-by, lent-sound}
 use Rattle.verdicts.specs.Verdicts.{verdictSays, lentCauses}
 use Rattle.model.proofs.Refusals.{number-range}
-use Rattle.model.proofs.Causes.{cause-next, cause-here, none-holds, causes-before, causes-after}
+use Rattle.model.proofs.Causes.{cause-next, cause-here, none-holds, causes-before, causes-after, between-says, holds-by}
 use native.Mathlib.Omega.{arith}
 use mathlib.Core.Path.{sym, ap, _∙_}
 use borrow.Author.Needs.{needs}

@@ -9,13 +9,14 @@ use native.Mathlib.Omega.{arith}
 use lib.ListN.{length}
 use Rattle.links.specs.Composed.{reach}
 use Rattle.checks.specs.Lent.{lentPicks}
-use Rattle.checks.proofs.Lent.{lent-end, lent-part, first-lent}
+use Rattle.links.proofs.Picks.{lent-end, lent-part, first-lent}
+use Rattle.measures.specs.Kit.{hops01}
 use borrow.Author.Needs.{needs}
 use Rattle.reach.proofs.write_table.Statement.{statement}
 use Rattle.reach.proofs.write_table.Tie as tie
 
 abbrev Inv-loop : tie.InvT-loop
-Inv-loop out₀ words n m k₀ out k = (1 ≤ k) × ((k ≤ m) × ((length out ≡ n) × (out ≡ reach n 31 (lentPicks n words k))))
+Inv-loop out₀ words n m k₀ out k = (1 ≤ k) × ((k ≤ m) × ((length out ≡ n) × (out ≡ reach n hops01 (lentPicks n words k))))
 
 abbrev μ-loop : tie.MeasureT-loop
 μ-loop out₀ words n m k₀ out k = m - k
@@ -33,8 +34,8 @@ loop-holds c =
         c7 .pre .1 .1 .0,
         (
           c .before .before .close-over .kept .0 ∙ sym (c7 .pre .1 .0),
-          c .before .before .close-over .ensures ∙ ap (within (c7 .args .n) 31)
-              (first-lent (c7 .args .n) (c7 .args .words .now)) ∙ sym (reach-first (c7 .args .n) 31 (c7 .args .words .now)),
+          c .before .before .close-over .ensures ∙ ap (within (c7 .args .n) hops01)
+              (first-lent (c7 .args .n) (c7 .args .words .now)) ∙ sym (reach-first (c7 .args .n) hops01 (c7 .args .words .now)),
         ),
       ),
     )
@@ -67,7 +68,7 @@ loop-again c =
         (
           c .before .before .add-pick .kept .0 ∙ c6 .loop .inv .1 .1 .0,
           reach-turn
-              (c14 .args .n) (c6 .loop .k) (c14 .args .words .now) (c6 .loop .out) (c .before .before .add-pick .last .0) _ (c6 .loop .inv .0)
+              (c14 .args .n) hops01 (c6 .loop .k) (c14 .args .words .now) (c6 .loop .out) (c .before .before .add-pick .last .0) _ (c6 .loop .inv .0)
               (c6 .loop .inv .1 .1 .1) (lent-part
               (c14 .args .n) (c6 .loop .k) (c14 .args .words .now)) (c .before .before .add-pick .ensures),
         ),

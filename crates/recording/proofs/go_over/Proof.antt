@@ -8,8 +8,8 @@ use Rattle.lists.specs.Tab.{splice}
 use Rattle.lists.proofs.Tab.{length-zeros}
 use Rattle.lists.proofs.Zeros.{lent, lent-length}
 use Rattle.commands.proofs.Admit.{headed}
-use Rattle.recording.specs.Format.{opened, recordingAt}
-use Rattle.recording.proofs.Others.{opened-other}
+use Rattle.recording.specs.Format.{afterHead, recordingAt}
+use Rattle.recording.proofs.Others.{after-head-other}
 use Rattle.recording.proofs.Written.{nothing-kept, refused-over}
 use borrow.Author.Needs.{needs}
 use Rattle.recording.proofs.go_over.Statement.{statement}
@@ -20,7 +20,7 @@ unfolding recordingAt
 returns c = let h = c .before .before in
     let s = h .before .before .before in
     let w = s .args .writes in
-    let e = ap (opened _ _ _) (sym (h .head-at .ensures)) ∙ opened-other _ _ _ (h .head-at .result) (c .before .match .keys2) in
+    let e = ap (afterHead _ _ _) (sym (h .head-at .ensures)) ∙ after-head-other _ _ _ (h .head-at .result) (c .before .match .keys2) in
     rw (c .refusal-in .ensures) (refused-over w (splice 0 0 [] (s .args .out .now)) _ _ (s .pre) e (nothing-kept w _))
 
 add-go-over-commands : tie.Need-add-go-over-commands

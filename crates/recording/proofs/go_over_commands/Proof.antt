@@ -46,8 +46,8 @@ loop-again c = let i = c .before .before .before .before .before in
     let a = underway-link (l .loop .inv .2) (t .next .ensures) (t .before .before .loop-test .taken) (m .command .given .1) (i .item .given .1) in
     (l .loop .inv .0 ∙ sym (c .before .before .flip .kept .0), l .loop .inv .1, rw (c .before .before .flip .ensures) a)
 
-put-requires : tie.Need-put-requires Inv-loop μ-loop
-put-requires c κs = let i = c .before .before in
+put-pick-requires : tie.Need-put-pick-requires Inv-loop μ-loop
+put-pick-requires c κs = let i = c .before .before in
     let m = i .before .before .before in
     let t = m .before .before in
     let l = t .before .before .before in
@@ -69,7 +69,7 @@ loop-again-2 c = let i = c .before .before .before .before .before in
     let l = t .before .before .before in
     let a = underway-pick (l .loop .inv .2) (t .next .ensures) (t .before .before .loop-test .taken) (m .command .given .1) (i .enum-told .given .1)
     (l .loop .inv .0) in
-    (l .loop .inv .0, c .before .before .put .kept .0 ∙ l .loop .inv .1, rw (c .before .before .put .ensures) a)
+    (l .loop .inv .0, c .before .before .put-pick .kept .0 ∙ l .loop .inv .1, rw (c .before .before .put-pick .ensures) a)
 
 returns-2 : tie.Need-returns-2 Inv-loop μ-loop
 returns-2 c = let m = c .before .before .before in
@@ -85,5 +85,5 @@ go-over-commands-spec =
     tie.close
     (tie.spec
     Inv-loop μ-loop loop-holds (search needs) (search needs) (search needs) (search needs) (search needs) returns (search needs) flip-requires
-    (search needs) (search needs) loop-again (search needs) put-requires add-picks (search needs) (search needs) loop-again-2 (search needs)
+    (search needs) (search needs) loop-again (search needs) put-pick-requires add-picks (search needs) (search needs) loop-again-2 (search needs)
     (search needs) (search needs) (search needs) returns-2 (search needs) (search needs) returns-3)

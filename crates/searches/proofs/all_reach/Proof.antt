@@ -5,6 +5,7 @@ use mathlib.Core.Bool.{true}
 use Prim.Native.Nat.{_-_, _≤_}
 use native.Mathlib.Omega.{arith}
 use borrow.Author.Tests.{ne-eqb}
+use Rattle.model.specs.Journey.{mostLinks}
 use Rattle.model.proofs.Logic.{T→≡}
 use Rattle.searches.proofs.Search.{Seen, seen-start, seen-next, seen-stays, seen-all, seen-end}
 use borrow.Author.Needs.{needs}
@@ -28,7 +29,7 @@ returns c =
 returns-2 : tie.Need-returns-2 Inv-loop μ-loop
 returns-2 c =
     let c4 = c .before .before .before .before in
-    let m = seen-stays (sym (c .before .backward .ensures) ∙ c .if2 .taken) (c4 .loop .inv .1) 31 in
+    let m = seen-stays (sym (c .before .backward .ensures) ∙ c .if2 .taken) (c4 .loop .inv .1) mostLinks in
     sym (ne-eqb _ _ (rw (c4 .before .low-bits .ensures) at (c .before .before .if1 .left))) ∙ seen-end (c4 .before .before .before .pre .0) m (omega arith)
 
 loop-again : tie.Need-loop-again Inv-loop μ-loop

@@ -23,18 +23,6 @@ abbrev μ-loop : tie.MeasureT-loop
 loop-holds : tie.Need-loop-holds Inv-loop μ-loop
 loop-holds c = (search needs, (search needs, c .before .before .pre .1 .0 ∙ columns-none (c .before .before .args .n) (c .before .before .args .half .now)))
 
-mul-at : tie.Need-mul-at Inv-loop μ-loop
-mul-at c = omega (arith, row-le _ (c .loop-test .taken))
-
-add-add-marks : tie.Need-add-add-marks Inv-loop μ-loop
-add-add-marks c = omega (arith, row-le _ (c .before .loop-test .taken))
-
-mul-add-marks : tie.Need-mul-add-marks Inv-loop μ-loop
-mul-add-marks c = omega (arith, row-le _ (c .before .loop-test .taken))
-
-part-add-marks-end : tie.Need-part-add-marks-end Inv-loop μ-loop
-part-add-marks-end c = omega (arith, row-le _ (c .before .loop-test .taken))
-
 add-marks-requires : tie.Need-add-marks-requires Inv-loop μ-loop
 add-marks-requires c κs =
     let c3 = c .before .before .before in
@@ -58,5 +46,6 @@ pub column-marks-spec : {M : Type 1} → statement M
 column-marks-spec =
     tie.close
     (tie.spec
-    Inv-loop μ-loop loop-holds mul-at add-add-marks mul-add-marks (search needs) (search needs) part-add-marks-end add-marks-requires (search needs)
-    (search needs) loop-again (search needs) returns)
+    Inv-loop μ-loop loop-holds (λ c. omega (arith, row-le _ (c .loop-test .taken))) (λ c. omega (arith, row-le _ (c .before .loop-test .taken)))
+    (λ c. omega (arith, row-le _ (c .before .loop-test .taken))) (search needs) (search needs) (λ c. omega (arith, row-le _ (c .before .loop-test .taken)))
+    add-marks-requires (search needs) (search needs) loop-again (search needs) returns)

@@ -25,18 +25,6 @@ loop-holds : tie.Need-loop-holds Inv-loop μ-loop
 unfolding marks
 loop-holds c = search needs
 
-mul-at : tie.Need-mul-at Inv-loop μ-loop
-mul-at c = omega (arith, row-le _ (c .loop-test .taken))
-
-add-any-of : tie.Need-add-any-of Inv-loop μ-loop
-add-any-of c = omega (arith, row-le _ (c .loop-test .taken))
-
-mul-any-of : tie.Need-mul-any-of Inv-loop μ-loop
-mul-any-of c = omega (arith, row-le _ (c .loop-test .taken))
-
-part-any-of-end : tie.Need-part-any-of-end Inv-loop μ-loop
-part-any-of-end c = omega (arith, row-le _ (c .loop-test .taken))
-
 any-of-requires : tie.Need-any-of-requires Inv-loop μ-loop
 any-of-requires c κs = le-of-eq (part-length _ _ _ (omega (arith, row-le _ (c .before .loop-test .taken))))
 
@@ -59,5 +47,6 @@ pub some-rows-spec : {M : Type 1} → statement M
 some-rows-spec =
     tie.close
     (tie.spec
-    Inv-loop μ-loop loop-holds mul-at add-any-of mul-any-of (search needs) (search needs) part-any-of-end any-of-requires (search needs) (search needs)
-    (search needs) loop-again returns)
+    Inv-loop μ-loop loop-holds (λ c. omega (arith, row-le _ (c .loop-test .taken))) (λ c. omega (arith, row-le _ (c .loop-test .taken)))
+    (λ c. omega (arith, row-le _ (c .loop-test .taken))) (search needs) (search needs) (λ c. omega (arith, row-le _ (c .loop-test .taken))) any-of-requires
+    (search needs) (search needs) (search needs) loop-again returns)

@@ -22,18 +22,6 @@ abbrev μ-loop : tie.MeasureT-loop
 loop-holds : tie.Need-loop-holds Inv-loop μ-loop
 loop-holds c = made-start (c .before .before .pre .1 .0)
 
-mul-at : tie.Need-mul-at Inv-loop μ-loop
-mul-at c = omega (arith, row-le _ (c .loop-test .taken))
-
-add-set-of : tie.Need-add-set-of Inv-loop μ-loop
-add-set-of c = omega (arith, row-le _ (c .loop-test .taken))
-
-mul-set-of : tie.Need-mul-set-of Inv-loop μ-loop
-mul-set-of c = omega (arith, row-le _ (c .loop-test .taken))
-
-part-set-of-end : tie.Need-part-set-of-end Inv-loop μ-loop
-part-set-of-end c = omega (arith, row-le _ (c .loop-test .taken))
-
 set-of-requires : tie.Need-set-of-requires Inv-loop μ-loop
 set-of-requires c κs =
     let h = c .before .loop-test .taken in
@@ -54,5 +42,6 @@ pub write-spec : {M : Type 1} → statement M
 write-spec =
     tie.close
     (tie.spec
-    Inv-loop μ-loop loop-holds mul-at add-set-of mul-set-of (search needs) (search needs) part-set-of-end set-of-requires (search needs) (search needs)
-    (search needs) (search needs) loop-again (search needs) returns)
+    Inv-loop μ-loop loop-holds (λ c. omega (arith, row-le _ (c .loop-test .taken))) (λ c. omega (arith, row-le _ (c .loop-test .taken)))
+    (λ c. omega (arith, row-le _ (c .loop-test .taken))) (search needs) (search needs) (λ c. omega (arith, row-le _ (c .loop-test .taken))) set-of-requires
+    (search needs) (search needs) (search needs) (search needs) loop-again (search needs) returns)

@@ -1,7 +1,6 @@
 -- `steps::is_finished` meets its contract, by the tests of its branches.
 -- Assumes nothing.
 use borrow.Author.Tests.{eq-eqb, ne-eqb, lt-ltb, le-ltb}
-use borrow.Author.Needs.{needs}
 use Rattle.steps.proofs.is_finished.Statement.{statement}
 use Rattle.steps.proofs.is_finished.Tie as tie
 

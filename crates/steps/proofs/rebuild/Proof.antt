@@ -10,13 +10,15 @@ use Rattle.steps.proofs.rebuild.Tie as tie
 
 sub-charged : tie.Need-sub-charged
 sub-charged c =
-    let c18 = c .before .before .before .before .before .before .before .before .before .before .before .before .before .before .before .before .before .before in
+    let c9 = c .before .before .before .before .before .before .before .before .before in
+    let c18 = c9 .before .before .before .before .before .before .before .before .before in
     omega (arith, c18 .pre .0 .inside)
 
 charged-requires : tie.Need-charged-requires
 unfolding boundaryMoved
 charged-requires c κs =
-    let c18 = c .before .before .before .before .before .before .before .before .before .before .before .before .before .before .before .before .before .before in
+    let c9 = c .before .before .before .before .before .before .before .before .before in
+    let c18 = c9 .before .before .before .before .before .before .before .before .before in
     let f = c18 .pre .0 in (rw (c .before .before .boundary-moved .ensures) (omega (arith, f .comps)), omega (arith, f .able .cap, f .top))
 
 same-length : tie.Need-same-length

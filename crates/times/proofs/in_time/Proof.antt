@@ -14,17 +14,17 @@ use Rattle.times.proofs.in_time.Statement.{statement}
 use Rattle.times.proofs.in_time.Tie as tie
 
 abbrev Inv-loop : tie.InvT-loop
-Inv-loop t n u₀ u = (u ≤ n) × (every (belowInTime n t) u ≡ true)
+Inv-loop t n turn u₀ u = (u ≤ n) × (every (belowInTime n turn t) u ≡ true)
 
 abbrev μ-loop : tie.MeasureT-loop
-μ-loop t n u₀ u = n - u
+μ-loop t n turn u₀ u = n - u
 
 loop-holds : tie.Need-loop-holds Inv-loop μ-loop
 loop-holds c = (search needs, every-none _)
 
 returns : tie.Need-returns Inv-loop μ-loop
 returns c = sym (every-stop _ _ _ (c .before .before .loop-test .taken) (sym (c .before .row-in-time .ensures) ∙ not-true _ (c .if1 .taken)))
-    ∙ below-all _ _
+    ∙ below-all _ _ _
 
 loop-again : tie.Need-loop-again Inv-loop μ-loop
 loop-again c = (
@@ -33,7 +33,7 @@ loop-again c = (
 )
 
 returns-2 : tie.Need-returns-2 Inv-loop μ-loop
-returns-2 c = let e : c .before .loop .u ≡ c .before .before .before .args .n = omega arith in sym (rw e at (c .before .loop .inv .1)) ∙ below-all _ _
+returns-2 c = let e : c .before .loop .u ≡ c .before .before .before .args .n = omega arith in sym (rw e at (c .before .loop .inv .1)) ∙ below-all _ _ _
 
 pub in-time-spec : {M : Type 1} → statement M
 in-time-spec =

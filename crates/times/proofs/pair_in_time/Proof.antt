@@ -44,7 +44,7 @@ shared-slice-read-no-later-2 c = let p = pairs (c .before .before .before) in om
 returns : tie.Need-returns
 returns c =
     let s = c .before .before .before .before .before in
-    pair-not (s .args .n) (s .args .t .now) (s .args .a .0) (s .args .b .0) (s .pre .1 .1 .0)
+    pair-not (s .args .n) (s .args .turn) (s .args .t .now) (s .args .a .0) (s .args .b .0) (s .pre .1 .1 .0)
     (sym (c .before .no-later .ensures) ∙ not-true _ (c .if1 .taken))
 
 mul-no-later-3 : tie.Need-mul-no-later-3
@@ -67,7 +67,7 @@ returns-2 c =
     let c3 = c .before .before .before in
     let c4 = c3 .before in
     let s = c4 .before .before .before .before in
-    c .no-later2 .ensures ∙ pair-last (s .args .n) (s .args .t .now) (s .args .a .0) (s .args .b .0) (s .pre .1 .1 .0)
+    c .no-later2 .ensures ∙ pair-last (s .args .n) (s .args .turn) (s .args .t .now) (s .args .a .0) (s .args .b .0) (s .pre .1 .1 .0)
     (sym (c4 .no-later .ensures) ∙ not-false _ (c3 .if1 .left))
 
 pub pair-in-time-spec : {M : Type 1} → statement M

@@ -13,10 +13,10 @@ use Rattle.times.proofs.row_in_time.Statement.{statement}
 use Rattle.times.proofs.row_in_time.Tie as tie
 
 abbrev Inv-loop : tie.InvT-loop
-Inv-loop t n u v₀ v = (v ≤ u) × (every (pairInTime n t u) v ≡ true)
+Inv-loop t n turn u v₀ v = (v ≤ u) × (every (pairInTime n turn t u) v ≡ true)
 
 abbrev μ-loop : tie.MeasureT-loop
-μ-loop t n u v₀ v = u - v
+μ-loop t n turn u v₀ v = u - v
 
 loop-holds : tie.Need-loop-holds Inv-loop μ-loop
 loop-holds c = (search needs, every-none _)

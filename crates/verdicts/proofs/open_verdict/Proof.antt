@@ -3,8 +3,8 @@
 use native.Mathlib.Omega.{arith}
 use borrow.Author.Tests.{eq-eqb, ne-eqb}
 use Rattle.verdicts.specs.Verdicts.{openVerdict}
-use Rattle.model.proofs.Causes.{cause-next, cause-here}
-use Rattle.verdicts.proofs.Verdicts.{between-says, passed-by, failed-by, holds-by}
+use Rattle.model.proofs.Causes.{cause-next, cause-here, between-says, holds-by}
+use Rattle.verdicts.proofs.Verdicts.{passed-by, failed-by}
 use borrow.Author.Needs.{needs}
 use Rattle.verdicts.proofs.open_verdict.Statement.{statement}
 use Rattle.verdicts.proofs.open_verdict.Tie as tie

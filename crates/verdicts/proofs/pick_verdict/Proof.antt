@@ -5,8 +5,8 @@ use native.Mathlib.Omega.{arith}
 use borrow.Author.Tests.{eq-eqb, ne-eqb, le-leb, lt-leb}
 use Rattle.place.proofs.Laws.{sound-says}
 use Rattle.verdicts.specs.Verdicts.{pickVerdict}
-use Rattle.model.proofs.Causes.{cause-none, cause-next, cause-here}
-use Rattle.verdicts.proofs.Verdicts.{passed-by, failed-by, holds-by, not-short, links-room}
+use Rattle.model.proofs.Causes.{cause-none, cause-next, cause-here, holds-by}
+use Rattle.verdicts.proofs.Verdicts.{passed-by, failed-by, not-short}
 use borrow.Author.Needs.{needs}
 use Rattle.verdicts.proofs.pick_verdict.Statement.{statement}
 use Rattle.verdicts.proofs.pick_verdict.Tie as tie
@@ -84,14 +84,10 @@ is-listed-requires c κs =
     let s = sound-says _ (holds-by (c .before .before .before .before .before .before .before .before .before .is-sound .ensures)
     (c .before .before .before .before .before .before .before .before .if1 .left)) in (
       s .boards-high,
-      (
-        s .limit-high,
-        (
-          sym (c .before .before .before .before .before .if3 .left),
-          links-room _ _ _ _ (c .if6 .left) (not-short _ _ (sym
-              (c .before .before .is-short .ensures) ∙ c .before .if5 .left)),
-        ),
-      ),
+      s .limit-high,
+      c .if6 .left,
+      sym (c .before .before .before .before .before .if3 .left),
+      not-short _ _ (sym (c .before .before .is-short .ensures) ∙ c .before .if5 .left),
     )
 
 returns-7 : tie.Need-returns-7

@@ -1,6 +1,6 @@
 -- `place::Place::charged` meets its contract. Assumes nothing.
-use Rattle.place.specs.Places.{charged}
 use mathlib.Core.Path.{refl}
+use Rattle.place.specs.Places.{charged}
 use borrow.Author.Needs.{needs}
 use Rattle.place.proofs.Place.charged.Statement.{statement}
 use Rattle.place.proofs.Place.charged.Tie as tie

@@ -6,7 +6,7 @@ use Rattle.place.proofs.Place.open.Tie as tie
 
 returns : tie.Need-returns
 unfolding fresh
-returns c = rw (c .before .of-measure .ensures)
+returns c = rw (c .before .before .of-measure .ensures)
 
 pub open-spec : {M : Type 1} → statement M
 open-spec =
