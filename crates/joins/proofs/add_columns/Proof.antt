@@ -23,6 +23,21 @@ add-fours-requires c κs = search needs
 loop-holds : tie.Need-loop-holds Inv-loop μ-loop
 loop-holds c = let c2 = c .before .before in (c2 .add-fours .ensures .0, (search needs, c2 .add-fours .ensures .1))
 
+mul-add-column : tie.Need-mul-add-column Inv-loop μ-loop
+mul-add-column c = search needs
+
+shared-slice-read-add-column : tie.Need-shared-slice-read-add-column Inv-loop μ-loop
+shared-slice-read-add-column c = search needs
+
+add-column-requires : tie.Need-add-column-requires Inv-loop μ-loop
+add-column-requires c κs = search needs
+
+add-w : tie.Need-add-w Inv-loop μ-loop
+add-w c = search needs
+
+loop-less : tie.Need-loop-less Inv-loop μ-loop
+loop-less c = search needs
+
 loop-again : tie.Need-loop-again Inv-loop μ-loop
 loop-again c =
     let c6 = c .before .before .before .before .before .before in (
@@ -34,6 +49,9 @@ loop-again c =
       ),
     )
 
+same-length : tie.Need-same-length Inv-loop μ-loop
+same-length c = search needs
+
 returns : tie.Need-returns Inv-loop μ-loop
 returns c =
     let c9 = c .before .before .before .before .before .before .before .before .before in
@@ -43,5 +61,15 @@ pub add-columns-spec : {M : Type 1} → statement M
 add-columns-spec =
     tie.close
     (tie.spec
-    Inv-loop μ-loop add-fours-requires loop-holds (search needs) (search needs) (search needs) (search needs) (search needs) loop-again (search needs)
+    Inv-loop
+    μ-loop
+    add-fours-requires
+    loop-holds
+    mul-add-column
+    shared-slice-read-add-column
+    add-column-requires
+    add-w
+    loop-less
+    loop-again
+    same-length
     returns)

@@ -18,14 +18,32 @@ Inv-loop left ts n all u₀ u = (u ≤ n) × (every (lookedFull n ts left) u ≡
 abbrev μ-loop : tie.MeasureT-loop
 μ-loop left ts n all u₀ u = n - u
 
+low-bits-requires : tie.Need-low-bits-requires Inv-loop μ-loop
+low-bits-requires c κs = search needs
+
 loop-holds : tie.Need-loop-holds Inv-loop μ-loop
 loop-holds c = (search needs, every-none _)
+
+mul-through : tie.Need-mul-through Inv-loop μ-loop
+mul-through c = search needs
+
+shared-slice-read-through : tie.Need-shared-slice-read-through Inv-loop μ-loop
+shared-slice-read-through c = search needs
+
+through-requires : tie.Need-through-requires Inv-loop μ-loop
+through-requires c κs = search needs
 
 returns : tie.Need-returns Inv-loop μ-loop
 unfolding lookedFull
 returns c =
     sym (every-stop _ _ _ (c .before .before .before .loop-test .taken)
     (ne-eqb _ _ (simp (c .before .through .ensures, c .before .before .before .before .before .low-bits .ensures) at (c .if1 .taken))))
+
+add-u : tie.Need-add-u Inv-loop μ-loop
+add-u c = search needs
+
+loop-less : tie.Need-loop-less Inv-loop μ-loop
+loop-less c = search needs
 
 loop-again : tie.Need-loop-again Inv-loop μ-loop
 unfolding lookedFull
@@ -42,4 +60,15 @@ pub are-full-spec : {M : Type 1} → statement M
 are-full-spec =
     tie.close
     (tie.spec
-    Inv-loop μ-loop (search needs) loop-holds (search needs) (search needs) (search needs) returns (search needs) (search needs) loop-again returns-2)
+    Inv-loop
+    μ-loop
+    low-bits-requires
+    loop-holds
+    mul-through
+    shared-slice-read-through
+    through-requires
+    returns
+    add-u
+    loop-less
+    loop-again
+    returns-2)

@@ -10,6 +10,15 @@ use borrow.Author.Needs.{needs}
 use Rattle.joins.proofs.close_by_passes.Statement.{statement}
 use Rattle.joins.proofs.close_by_passes.Tie as tie
 
+pass-over-all-requires : tie.Need-pass-over-all-requires
+pass-over-all-requires c κs = search needs
+
+clear-own-requires : tie.Need-clear-own-requires
+clear-own-requires c κs = search needs
+
+same-length : tie.Need-same-length
+same-length c = search needs
+
 returns : tie.Need-returns
 unfolding closed
 returns c =
@@ -18,5 +27,4 @@ returns c =
     (c .before .before .before .before .before .before .pass-over-all .ensures) ∙ closed-within _ _ (c9 .pre .0)
 
 pub close-by-passes-spec : {M : Type 1} → statement M
-close-by-passes-spec =
-    tie.close (tie.spec (search needs) (search needs) (search needs) returns)
+close-by-passes-spec = tie.close (tie.spec pass-over-all-requires clear-own-requires same-length returns)

@@ -5,6 +5,18 @@ use borrow.Author.Needs.{needs}
 use Rattle.joins.proofs.join_tables.Statement.{statement}
 use Rattle.joins.proofs.join_tables.Tie as tie
 
+load-requires : tie.Need-load-requires
+load-requires c κs = search needs
+
+tables-requires : tie.Need-tables-requires
+tables-requires c κs = search needs
+
+join-rows-requires : tie.Need-join-rows-requires
+join-rows-requires c κs = search needs
+
+same-length : tie.Need-same-length
+same-length c = search needs
+
 returns : tie.Need-returns
 returns c =
     let c5 = c .before .before .before .before .before in
@@ -14,4 +26,4 @@ returns c =
 
 pub join-tables-spec : {M : Type 1} → statement M
 join-tables-spec =
-    tie.close (tie.spec (search needs) (search needs) (search needs) (search needs) returns)
+    tie.close (tie.spec load-requires tables-requires join-rows-requires same-length returns)

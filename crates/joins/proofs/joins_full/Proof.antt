@@ -6,6 +6,15 @@ use borrow.Author.Needs.{needs}
 use Rattle.joins.proofs.joins_full.Statement.{statement}
 use Rattle.joins.proofs.joins_full.Tie as tie
 
+load-requires : tie.Need-load-requires
+load-requires c κs = search needs
+
+tables-requires : tie.Need-tables-requires
+tables-requires c κs = search needs
+
+are-full-requires : tie.Need-are-full-requires
+are-full-requires c κs = search needs
+
 returns : tie.Need-returns
 returns c =
     let c4 = c .before .before .before .before in
@@ -13,5 +22,4 @@ returns c =
     simp (c .are-full .ensures, c .before .before .tables .ensures, c4 .load .ensures) (looked-full _ _ _ (start .pre .0) (start .pre .1 .1))
 
 pub joins-full-spec : {M : Type 1} → statement M
-joins-full-spec =
-    tie.close (tie.spec (search needs) (search needs) (search needs) returns)
+joins-full-spec = tie.close (tie.spec load-requires tables-requires are-full-requires returns)

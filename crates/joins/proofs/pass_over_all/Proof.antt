@@ -18,6 +18,9 @@ Inv-loop t₀ n into w₀ t w = (w ≤ n) × ((length t ≡ n) × ((t ≡ passes
 abbrev μ-loop : tie.MeasureT-loop
 μ-loop t₀ n into w₀ t w = n - w
 
+any-of-requires : tie.Need-any-of-requires Inv-loop μ-loop
+any-of-requires c κs = search needs
+
 loop-holds : tie.Need-loop-holds Inv-loop μ-loop
 unfolding passes
 loop-holds c = (search needs, (search needs, (search needs, led-into _ _ (c .any-of .ensures))))
@@ -26,6 +29,12 @@ pass-if-requires : tie.Need-pass-if-requires Inv-loop μ-loop
 pass-if-requires c κs =
     let i = c .before .before .loop .inv .1 in
     (c .before .before .before .before .before .before .pre .0, (search needs, (sym (i .0), i .1 .1)))
+
+add-w : tie.Need-add-w Inv-loop μ-loop
+add-w c = search needs
+
+loop-less : tie.Need-loop-less Inv-loop μ-loop
+loop-less c = search needs
 
 loop-again : tie.Need-loop-again Inv-loop μ-loop
 loop-again c =
@@ -40,9 +49,23 @@ loop-again c =
       ),
     )
 
+same-length : tie.Need-same-length Inv-loop μ-loop
+same-length c = search needs
+
 returns : tie.Need-returns Inv-loop μ-loop
 returns c = let e : c .before .loop .w ≡ c .before .before .before .before .before .args .n = omega arith in rw e at (c .before .loop .inv .1 .1 .0)
 
 pub pass-over-all-spec : {M : Type 1} → statement M
 pass-over-all-spec =
-    tie.close (tie.spec Inv-loop μ-loop (search needs) loop-holds pass-if-requires (search needs) (search needs) loop-again (search needs) returns)
+    tie.close
+    (tie.spec
+    Inv-loop
+    μ-loop
+    any-of-requires
+    loop-holds
+    pass-if-requires
+    add-w
+    loop-less
+    loop-again
+    same-length
+    returns)

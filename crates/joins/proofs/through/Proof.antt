@@ -7,6 +7,36 @@ use borrow.Author.Needs.{needs}
 use Rattle.joins.proofs.through.Statement.{statement}
 use Rattle.joins.proofs.through.Tie as tie
 
+cast-row : tie.Need-cast-row
+cast-row c = search needs
+
+shl-row : tie.Need-shl-row
+shl-row c = search needs
+
+look-up-requires : tie.Need-look-up-requires
+look-up-requires c κs = search needs
+
+look-up-requires-2 : tie.Need-look-up-requires-2
+look-up-requires-2 c κs = search needs
+
+look-up-requires-3 : tie.Need-look-up-requires-3
+look-up-requires-3 c κs = search needs
+
+look-up-requires-4 : tie.Need-look-up-requires-4
+look-up-requires-4 c κs = search needs
+
+look-up-requires-5 : tie.Need-look-up-requires-5
+look-up-requires-5 c κs = search needs
+
+look-up-requires-6 : tie.Need-look-up-requires-6
+look-up-requires-6 c κs = search needs
+
+look-up-requires-7 : tie.Need-look-up-requires-7
+look-up-requires-7 c κs = search needs
+
+look-up-requires-8 : tie.Need-look-up-requires-8
+look-up-requires-8 c κs = search needs
+
 returns : tie.Need-returns
 unfolding lookedWord looked
 returns c =
@@ -28,5 +58,14 @@ pub through-spec : {M : Type 1} → statement M
 through-spec =
     tie.close
     (tie.spec
-    (search needs) (search needs) (search needs) (search needs) (search needs) (search needs) (search needs) (search needs) (search needs) (search needs)
+    cast-row
+    shl-row
+    look-up-requires
+    look-up-requires-2
+    look-up-requires-3
+    look-up-requires-4
+    look-up-requires-5
+    look-up-requires-6
+    look-up-requires-7
+    look-up-requires-8
     returns)

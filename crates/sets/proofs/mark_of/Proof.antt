@@ -8,6 +8,12 @@ use borrow.Author.Needs.{needs}
 use Rattle.sets.proofs.mark_of.Statement.{statement}
 use Rattle.sets.proofs.mark_of.Tie as tie
 
+cast-result : tie.Need-cast-result
+cast-result c = search needs
+
+shl-result : tie.Need-shl-result
+shl-result c = search needs
+
 returns : tie.Need-returns
 unfolding markOf
 returns c = simp (eq-eqb _ _ (c .if1 .taken))
@@ -17,5 +23,4 @@ unfolding markOf
 returns-2 c = simp (one-mul, mod-eq-of-lt (pow-lt {j = 32} (c .before .pre)), ne-eqb _ _ (c .if1 .left))
 
 pub mark-of-spec : {M : Type 1} → statement M
-mark-of-spec =
-    tie.close (tie.spec (search needs) (search needs) returns returns-2)
+mark-of-spec = tie.close (tie.spec cast-result shl-result returns returns-2)

@@ -20,6 +20,21 @@ loop-holds : tie.Need-loop-holds Inv-loop μ-loop
 unfolding marks
 loop-holds c = search needs
 
+mul-mark-of : tie.Need-mul-mark-of Inv-loop μ-loop
+mul-mark-of c = search needs
+
+shared-slice-read-mark-of : tie.Need-shared-slice-read-mark-of Inv-loop μ-loop
+shared-slice-read-mark-of c = search needs
+
+mark-of-requires : tie.Need-mark-of-requires Inv-loop μ-loop
+mark-of-requires c κs = search needs
+
+add-v : tie.Need-add-v Inv-loop μ-loop
+add-v c = search needs
+
+loop-less : tie.Need-loop-less Inv-loop μ-loop
+loop-less c = search needs
+
 loop-again : tie.Need-loop-again Inv-loop μ-loop
 unfolding marks
 loop-again c = (search needs, rw (add-one (c .before .before .before .loop .v), c .before .before .before .loop .inv .1, c .mark-of .ensures))
@@ -29,4 +44,15 @@ returns c = let e : c .before .loop .v ≡ c .before .before .before .args .n = 
 
 pub row-marks-spec : {M : Type 1} → statement M
 row-marks-spec =
-    tie.close (tie.spec Inv-loop μ-loop loop-holds (search needs) (search needs) (search needs) (search needs) (search needs) loop-again returns)
+    tie.close
+    (tie.spec
+    Inv-loop
+    μ-loop
+    loop-holds
+    mul-mark-of
+    shared-slice-read-mark-of
+    mark-of-requires
+    add-v
+    loop-less
+    loop-again
+    returns)

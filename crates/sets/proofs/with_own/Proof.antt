@@ -19,6 +19,30 @@ abbrev μ-loop : tie.MeasureT-loop
 loop-holds : tie.Need-loop-holds Inv-loop μ-loop
 loop-holds c = made-start (c .pre .1)
 
+mul-sets : tie.Need-mul-sets Inv-loop μ-loop
+mul-sets c = search needs
+
+slice-read-sets : tie.Need-slice-read-sets Inv-loop μ-loop
+slice-read-sets c = search needs
+
+cast-sets : tie.Need-cast-sets Inv-loop μ-loop
+cast-sets c = search needs
+
+shl-sets : tie.Need-shl-sets Inv-loop μ-loop
+shl-sets c = search needs
+
+mul-sets-2 : tie.Need-mul-sets-2 Inv-loop μ-loop
+mul-sets-2 c = search needs
+
+slice-write-sets : tie.Need-slice-write-sets Inv-loop μ-loop
+slice-write-sets c = search needs
+
+add-u : tie.Need-add-u Inv-loop μ-loop
+add-u c = search needs
+
+loop-less : tie.Need-loop-less Inv-loop μ-loop
+loop-less c = search needs
+
 loop-again : tie.Need-loop-again Inv-loop μ-loop
 unfolding ownRow
 loop-again c =
@@ -31,6 +55,9 @@ loop-again c =
           (c .before .loop-test .taken),
     ))
 
+same-length : tie.Need-same-length Inv-loop μ-loop
+same-length c = search needs
+
 returns : tie.Need-returns Inv-loop μ-loop
 returns c = made-all (c .before .loop .inv) (c .loop-test .left)
 
@@ -38,5 +65,17 @@ pub with-own-spec : {M : Type 1} → statement M
 with-own-spec =
     tie.close
     (tie.spec
-    Inv-loop μ-loop loop-holds (search needs) (search needs) (search needs) (search needs) (search needs) (search needs) (search needs) (search needs)
-    loop-again (search needs) returns)
+    Inv-loop
+    μ-loop
+    loop-holds
+    mul-sets
+    slice-read-sets
+    cast-sets
+    shl-sets
+    mul-sets-2
+    slice-write-sets
+    add-u
+    loop-less
+    loop-again
+    same-length
+    returns)

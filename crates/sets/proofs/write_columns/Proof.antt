@@ -6,8 +6,17 @@ use borrow.Author.Needs.{needs}
 use Rattle.sets.proofs.write_columns.Statement.{statement}
 use Rattle.sets.proofs.write_columns.Tie as tie
 
+zero-over-requires : tie.Need-zero-over-requires
+zero-over-requires c κs = search needs
+
 column-marks-requires : tie.Need-column-marks-requires
 column-marks-requires c κs = search needs
+
+with-own-requires : tie.Need-with-own-requires
+with-own-requires c κs = search needs
+
+same-length : tie.Need-same-length
+same-length c = search needs
 
 returns : tie.Need-returns
 returns c =
@@ -17,4 +26,5 @@ returns c =
 
 pub write-columns-spec : {M : Type 1} → statement M
 write-columns-spec =
-    tie.close (tie.spec (search needs) column-marks-requires (search needs) (search needs) returns)
+    tie.close
+    (tie.spec zero-over-requires column-marks-requires with-own-requires same-length returns)
