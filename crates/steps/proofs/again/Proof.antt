@@ -19,6 +19,12 @@ try-window-requires c κs =
     let r = raise-tries _ _ (h .0) (h .2) (c6 .raise .ensures) (c6 .raise .kept .1 .0) in
     (r, raised-lends _ _ (h .0 .top) (c6 .raise .ensures) (c6 .raise .kept .1 .1 .0) (h .1))
 
+same-length : tie.Need-same-length
+same-length c = search needs
+
+same-length-2 : tie.Need-same-length-2
+same-length-2 c = search needs
+
 returns : tie.Need-returns
 returns c =
     let c4 = c .before .before .before .before in
@@ -28,4 +34,4 @@ returns c =
 
 pub again-spec : {M : Type 1} → statement M
 again-spec =
-    tie.close (tie.spec raise-requires try-window-requires (search needs) (search needs) returns)
+    tie.close (tie.spec raise-requires try-window-requires same-length same-length-2 returns)

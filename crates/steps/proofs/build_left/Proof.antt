@@ -20,6 +20,9 @@ abbrev μ-loop : tie.MeasureT-loop
 loop-holds : tie.Need-loop-holds Inv-loop μ-loop
 loop-holds c = (search needs, search needs, search needs, search needs, ladder-none _ _ _)
 
+sub-i : tie.Need-sub-i Inv-loop μ-loop
+sub-i c = search needs
+
 add-compose-at : tie.Need-add-compose-at Inv-loop μ-loop
 add-compose-at c = omega (arith, c .before .before .before .before .before .before .pre .0 .cap)
 
@@ -31,6 +34,9 @@ compose-at-requires c κs =
       record { low = omega arith; high = omega arith },
       record { low = omega arith; high = omega arith },
     )
+
+loop-less : tie.Need-loop-less Inv-loop μ-loop
+loop-less c = search needs
 
 loop-again : tie.Need-loop-again Inv-loop μ-loop
 loop-again c =
@@ -46,6 +52,12 @@ loop-again c =
           (c4 .compose-at .ensures),
     )
 
+same-length : tie.Need-same-length Inv-loop μ-loop
+same-length c = search needs
+
+same-length-2 : tie.Need-same-length-2 Inv-loop μ-loop
+same-length-2 c = search needs
+
 returns : tie.Need-returns Inv-loop μ-loop
 returns c = let e : c .before .loop .i ≡ c .before .before .before .before .args .s = omega arith in rw e at (c .before .loop .inv .4)
 
@@ -53,4 +65,14 @@ pub build-left-spec : {M : Type 1} → statement M
 build-left-spec =
     tie.close
     (tie.spec
-    Inv-loop μ-loop loop-holds (search needs) add-compose-at compose-at-requires (search needs) loop-again (search needs) (search needs) returns)
+    Inv-loop
+    μ-loop
+    loop-holds
+    sub-i
+    add-compose-at
+    compose-at-requires
+    loop-less
+    loop-again
+    same-length
+    same-length-2
+    returns)

@@ -11,6 +11,9 @@ use borrow.Author.Needs.{needs}
 use Rattle.steps.proofs.enter.Statement.{statement}
 use Rattle.steps.proofs.enter.Tie as tie
 
+add-t10 : tie.Need-add-t10
+add-t10 c = search needs
+
 own-part-requires : tie.Need-own-part-requires
 own-part-requires c κs =
     let s = c .before .before .before .before .before .before in
@@ -19,6 +22,9 @@ own-part-requires c κs =
     let a = h .0 .able in
     let l = a .cap in
     (a .few, (omega arith, (h .3, able-has a (in-part (s .args .p .window .taken .0 + 1) (omega arith) (omega arith)))))
+
+picks-taken-requires : tie.Need-picks-taken-requires
+picks-taken-requires c κs = search needs
 
 start-moved-requires : tie.Need-start-moved-requires
 unfolding picksTaken
@@ -36,6 +42,12 @@ extend-requires c κs =
       entry-owns (s .args .area .now) e (c .before .before .before .before .before .before .own-part .ensures) (h .0) (h .3),
     )
 
+same-length : tie.Need-same-length
+same-length c = search needs
+
+same-length-2 : tie.Need-same-length-2
+same-length-2 c = search needs
+
 returns : tie.Need-returns
 unfolding entered written startMoved picksTaken
 returns c =
@@ -49,4 +61,13 @@ returns c =
 
 pub enter-spec : {M : Type 1} → statement M
 enter-spec =
-    tie.close (tie.spec (search needs) own-part-requires (search needs) start-moved-requires extend-requires (search needs) (search needs) returns)
+    tie.close
+    (tie.spec
+    add-t10
+    own-part-requires
+    picks-taken-requires
+    start-moved-requires
+    extend-requires
+    same-length
+    same-length-2
+    returns)

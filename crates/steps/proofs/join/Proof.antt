@@ -9,6 +9,12 @@ use borrow.Author.Needs.{needs}
 use Rattle.steps.proofs.join.Statement.{statement}
 use Rattle.steps.proofs.join.Tie as tie
 
+add-if1 : tie.Need-add-if1
+add-if1 c = search needs
+
+add-compose-own : tie.Need-add-compose-own
+add-compose-own c = search needs
+
 compose-own-requires : tie.Need-compose-own-requires
 compose-own-requires c κs =
     let s = c .before .before .before .before .before .before .before .before .before .before in
@@ -24,12 +30,30 @@ compose-own-requires c κs =
       s .pre .2 .own,
     )
 
+charged-requires : tie.Need-charged-requires
+charged-requires c κs = search needs
+
+same-length : tie.Need-same-length
+same-length c = search needs
+
+same-length-2 : tie.Need-same-length-2
+same-length-2 c = search needs
+
 returns : tie.Need-returns
 unfolding joined joinedArea
 returns c =
     let c5 = c .before .before .before .before .before in
     let c8 = c5 .before .before .before in
     simp (lt-ltb _ _ (c8 .if1 .taken)) (c .charged .ensures, c5 .compose-own .ensures)
+
+add-copy-at : tie.Need-add-copy-at
+add-copy-at c = search needs
+
+copy-at-requires : tie.Need-copy-at-requires
+copy-at-requires c κs = search needs
+
+same-length-3 : tie.Need-same-length-3
+same-length-3 c = search needs
 
 returns-2 : tie.Need-returns-2
 unfolding joined joinedArea
@@ -39,5 +63,14 @@ pub join-spec : {M : Type 1} → statement M
 join-spec =
     tie.close
     (tie.spec
-    (search needs) (search needs) compose-own-requires (search needs) (search needs) (search needs) returns (search needs) (search needs) (search needs)
+    add-if1
+    add-compose-own
+    compose-own-requires
+    charged-requires
+    same-length
+    same-length-2
+    returns
+    add-copy-at
+    copy-at-requires
+    same-length-3
     returns-2)

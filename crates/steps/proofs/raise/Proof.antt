@@ -9,11 +9,26 @@ use borrow.Author.Needs.{needs}
 use Rattle.steps.proofs.raise.Statement.{statement}
 use Rattle.steps.proofs.raise.Tie as tie
 
+start-moved-requires : tie.Need-start-moved-requires
+start-moved-requires c κs = search needs
+
+add-if1 : tie.Need-add-if1
+add-if1 c = search needs
+
+add-if1-2 : tie.Need-add-if1-2
+add-if1-2 c = search needs
+
 rebuild-requires : tie.Need-rebuild-requires
 rebuild-requires c κs =
     let h = c .before .before .before .before .before .before .before .before .before .before .pre in
     let e = c .before .before .before .before .before .start-moved .ensures in
     (fit-at e refl (moved-fit _ (h .0) (h .2)), moved-lends _ e (h .1))
+
+same-length : tie.Need-same-length
+same-length c = search needs
+
+same-length-2 : tie.Need-same-length-2
+same-length-2 c = search needs
 
 returns : tie.Need-returns
 unfolding raised raisedBy startMoved
@@ -29,4 +44,13 @@ returns-2 c = simp (le-ltb _ _ (c .if1 .left)) (c .before .before .before .start
 
 pub raise-spec : {M : Type 1} → statement M
 raise-spec =
-    tie.close (tie.spec (search needs) (search needs) (search needs) rebuild-requires (search needs) (search needs) returns returns-2)
+    tie.close
+    (tie.spec
+    start-moved-requires
+    add-if1
+    add-if1-2
+    rebuild-requires
+    same-length
+    same-length-2
+    returns
+    returns-2)

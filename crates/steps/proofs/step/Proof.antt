@@ -16,6 +16,9 @@ use borrow.Author.Needs.{needs}
 use Rattle.steps.proofs.step.Statement.{statement}
 use Rattle.steps.proofs.step.Tie as tie
 
+is-finished-requires : tie.Need-is-finished-requires
+is-finished-requires c κs = search needs
+
 picks-taken-requires : tie.Need-picks-taken-requires
 picks-taken-requires c κs = let h = c .before .before .before .before .before .pre .0 .passed in (omega (arith, h .top, h .able .cap), omega arith)
 
@@ -28,6 +31,9 @@ returns c =
     let end = and-right (eqb (s .args .p .settings .measure) 1) (ended (s .args .p)) o in
     does-kept (s .args .p) _ _ (s .args .kept) (kept-one (s .args .p .settings) (s .args .kept) one) (simp (one, end) (c .picks-taken .ensures, refl))
 
+moved-by-requires : tie.Need-moved-by-requires
+moved-by-requires c κs = search needs
+
 enter-requires : tie.Need-enter-requires
 enter-requires c κs =
     let s = c .before .before .before .before .before .before .before .before in
@@ -37,6 +43,9 @@ enter-requires c κs =
       one-le (cond (eqb (s .args .p .settings .measure) 1) (s .args .p .marks .failed) (s .args .p .marks .passed)) e,
       s .pre .0 .shape,
     )
+
+is-spared-requires : tie.Need-is-spared-requires
+is-spared-requires c κs = search needs
 
 judge-ladders-requires : tie.Need-judge-ladders-requires
 judge-ladders-requires c κs =
@@ -181,6 +190,23 @@ pub step-spec : {M : Type 1} → statement M
 step-spec =
     tie.close
     (tie.spec
-    (search needs) picks-taken-requires returns (search needs) enter-requires (search needs) judge-ladders-requires same-length same-length-2 returns-2
-    try-window-requires climb-requires clear-spare-requires same-length-3 same-length-4 returns-3 clear-spare-requires-2 same-length-5 same-length-6
+    is-finished-requires
+    picks-taken-requires
+    returns
+    moved-by-requires
+    enter-requires
+    is-spared-requires
+    judge-ladders-requires
+    same-length
+    same-length-2
+    returns-2
+    try-window-requires
+    climb-requires
+    clear-spare-requires
+    same-length-3
+    same-length-4
+    returns-3
+    clear-spare-requires-2
+    same-length-5
+    same-length-6
     returns-4)
