@@ -158,9 +158,10 @@ module _ {p q : Place} {w a b : List ℕ} {m k : ℕ} (g : AfterPicks p w a m k 
       → AfterPicks p w a m (k + 1) r d
   along-turn {r} {d} e size out =
       let s = subst (λ (x : Place). Stepped q x) (sym e) (stepped-grown q b pick (g .ready) room) in
-      let sc = s .comps in
-      let sT = s .tests in
-      let sm = s .taken in
+      let u = s .grown in
+      let sc = u .comps in
+      let sT = u .tests in
+      let sm = u .taken in
       let gc = g .comps in
       let gt = g .tests in
       let gm = g .taken in
@@ -169,7 +170,7 @@ module _ {p q : Place} {w a b : List ℕ} {m k : ℕ} (g : AfterPicks p w a m k 
         low = omega arith;
         ready = subst (λ (x : ℕ). Ready r x) (sym size) (ready-on s (g .ready));
         size = size ∙ g .size;
-        settings = s .settings ∙ g .settings;
+        settings = u .settings ∙ g .settings;
         taken = omega arith;
         comps = omega arith;
         tests = omega arith;

@@ -17,7 +17,7 @@ use Rattle.place.specs.Places.{picksTaken, startMoved, boundaryMoved, charged, 
 use Rattle.steps.specs.Walk.{State, state, written, rebuilt, joined, extendedBy, extended, entered, onLeft, onRight, windowed, judged, tried, cleared}
 use Rattle.steps.specs.Walk.{raisedBy, raised, again, climb, climbed, ended, maxStep, reported}
 use Rattle.area.proofs.Laws.{zero-same, zero-length}
-use Rattle.steps.proofs.Frames.{tried-at, raised-at}
+use Rattle.steps.proofs.Grown.{tried-grown, raised-grown}
 use Rattle.law.specs.Ladders.{mOf, sOf, bOf, limitOf, WindowTables, holds, Law, Decides, Laddered}
 use Rattle.law.specs.Invariants.{Fails, MaxAnswer, MaxGoing, atEnd, MaxEnded, MaxInvariant, MaxKeepsClaim, MaxReportsClaim}
 use Rattle.law.proofs.Ladders.{not-lt, entered-by, raised-laddered, tried-tests, cleared-laddered, cleared-window}
@@ -173,7 +173,7 @@ module _ (X : WindowTables) (law : Law X) (P : ℕ → ℕ → Type 0) (right : 
   raised-on st z no-pass h a =
       let b = bOf st in
       let s = sOf st in
-      let e = raised-at K st 0 (omega arith) .taken in
+      let e = raised-grown K st .taken in
       tried-on (raised K st) (omega arith)
       (rising-by (ltb (b + 1) (s + 1)) st no-pass h a (λ t. ltb→lt (b + 1) (s + 1) t) (raised-laddered X law st (a .ladders) z h))
 
@@ -251,10 +251,10 @@ module _ (X : WindowTables) (law : Law X) (P : ℕ → ℕ → Type 0) (right : 
   climb-keeps (suc k) st z e a =
       cond-ind (λ (q : State). MaxInvariant X P (cleared K q)) (st .place .marks .passed) st (climb K k (tried K (raised K st)))
       (λ t. inl (passed-going st z a t))
-      (λ t. let r = raised-at K st 0 (omega arith) in
+      (λ t. let r = raised-grown K st in
       let r0 = r .taken in
       let r1 = r .start in
-      let q = tried-at K (raised K st) 0 (omega arith) in
+      let q = tried-grown K (raised K st) in
       let q0 = q .taken in
       let q1 = q .start in
       climb-keeps k (tried K (raised K st)) (omega arith) (omega arith) (raised-on st z t (omega arith) a))
@@ -274,7 +274,7 @@ max-keeps X law P right down w st z u e (inl a) =
     let s = sOf st + k in
     let g = entered-by X law k w st (a .ladders) z u e (a .ahead) in
     let few = g .1 in
-    let q0 = tried-at K q 0 (omega arith) .taken in
+    let q0 = tried-grown K q .taken in
     climb-keeps X law P right down (mOf (tried K q) - sOf (tried K q)) (tried K q) (omega arith) refl (tried-on X law P right down q few
     (untested-by X law P right down (ltb (b + 1) s) w st a z (λ t. ltb→lt (b + 1) s t) (λ t. not-lt (b + 1) s t) (g .0))))
 max-keeps X law P right down w st z u e (inr a) =

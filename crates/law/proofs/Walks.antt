@@ -3,7 +3,7 @@
 use mathlib.Core.Path.{_≡_, refl, _∙_, sym, ap, ap₂, subst}
 use mathlib.Core.Bool.{Bool, true, false, _&&_, not, cond}
 use mathlib.Core.List.{List}
-use Prim.Native.Nat.{ℕ, zero, suc, _+_, _-_, _*_, _≤_, zero-le}
+use Prim.Native.Nat.{ℕ, zero, suc, _+_, _-_, _*_, _≤_}
 use native.Mathlib.Omega.{arith}
 use lib.Dec.{eqb, ltb, T, eqb→eq}
 use Rattle.model.specs.Recording.{pickAt}
@@ -26,7 +26,7 @@ use Rattle.model.proofs.Logic.{eq-refl, eqb-ne, T→≡, F→≡, cond-ind}
 use Rattle.model.proofs.Windows.{pick-at}
 use Rattle.area.proofs.Laws.{join-wide, own-wide}
 use Rattle.steps.proofs.Fit.{boards-of, measure-of, limit-of}
-use Rattle.steps.proofs.Frames.{Numbers, tried-at, raised-at, entered-at}
+use Rattle.steps.proofs.Grown.{Grown, grown-on, tried-grown, entered-grown, again-grown}
 use Rattle.calls.proofs.Opened.{opened-list, opened-length, opened-part}
 use Rattle.calls.specs.Answers.{Outcome}
 use Rattle.law.specs.Invariants.{MinAnswer, MinInvariant, MaxAnswer, atEnd, MaxInvariant, MaxGoing}
@@ -47,25 +47,12 @@ pub record Settled (s : Settings) (m : ℕ) (q : Place) : Type 0 where
   pub settings : q .settings ≡ s
   pub taken : q .window .taken .0 ≡ m
 
-settled-on : {s : Settings} {q : Place} {m k : ℕ} {r : Place} → Settled s m q → k ≡ m → Settled (q .settings) k r → Settled s m r
-settled-on a e b = record { settings = b .settings ∙ a .settings; taken = b .taken ∙ e }
+-- one step after another
+settled-on : {s : Settings} {q r : Place} {m k l : ℕ} → Settled s m q → Settled (q .settings) k r → k ≡ l → Settled s l r
+settled-on a b e = record { settings = b .settings ∙ a .settings; taken = b .taken ∙ e }
 
--- what a step of the walk does to the numbers of a place, once for all kits
-numbers-settled : {st q : State} {m s from : ℕ} → Numbers st q m s from → Settled (st .place .settings) m (q .place)
-numbers-settled n = record { settings = n .settings; taken = n .taken }
-
-tried-settled : (K : Kit) (st : State) → Settled (st .place .settings) (mOf st) (tried K st .place)
-tried-settled K st = numbers-settled (tried-at K st 0 zero-le)
-
-entered-settled : (K : Kit) (k : ℕ) (w : List ℕ) (st : State) → Settled (st .place .settings) (mOf st + 1) (entered K k w st .place)
-entered-settled K k w st = numbers-settled (entered-at K k w st)
-
-raised-settled : (K : Kit) (st : State) → Settled (st .place .settings) (mOf st) (raised K st .place)
-raised-settled K st = numbers-settled (raised-at K st 0 zero-le)
-
-again-settled : (K : Kit) (st : State) → Settled (st .place .settings) (mOf st) (again K st .place)
-unfolding again
-again-settled K st = let a = raised-settled K st in settled-on a (a .taken) (tried-settled K (raised K st))
+grown-settled : {p q : Place} {m k c t l : ℕ} → Grown p q m k c t → p .window .taken .0 + m ≡ l → Settled (p .settings) l q
+grown-settled g e = record { settings = g .settings; taken = g .taken ∙ e }
 
 climb-settled : (K : Kit) (k : ℕ) (st : State) → Settled (st .place .settings) (mOf st) (climb K k st .place)
 unfolding climb
@@ -73,7 +60,7 @@ climb-settled K zero st = record { settings = refl; taken = refl }
 climb-settled K (suc k) st =
     cond-ind (λ (q : State). Settled (st .place .settings) (mOf st) (q .place)) (st .place .marks .passed) st (climb K k (again K st))
     (λ t. record { settings = refl; taken = refl })
-    (λ t. let a = again-settled K st in settled-on a (a .taken) (climb-settled K k (again K st)))
+    (λ t. let a = grown-settled (again-grown K st) (omega arith) in settled-on a (climb-settled K k (again K st)) (a .taken))
 
 pub stepped-settled : (K : Kit) (w : List ℕ) (st : State) → Settled (st .place .settings) (mOf st + 1) (stepped K w st .place)
 unfolding stepped minStep maxStep cleared climbed picksTaken
@@ -81,15 +68,15 @@ stepped-settled K w st =
     cond-ind Out (eqb (st .place .settings .measure) 1) (maxStep K w st) (minStep K w st)
     (λ t. cond-ind Out (ended (st .place)) (state (picksTaken (st .place) 1) (st .area)) _
     (λ t. record { settings = refl; taken = refl })
-    (λ t. let a = seen (val (st .place .marks .failed)) in let q = tried K (entered K (val (st .place .marks .failed)) w st) in settled-on a (a .taken)
-    (climb-settled K (mOf q - sOf q) q)))
+    (λ t. let a = seen (val (st .place .marks .failed)) in let q = tried K (entered K (val (st .place .marks .failed)) w st) in
+    settled-on a (climb-settled K (mOf q - sOf q) q) (a .taken)))
     (λ t. seen (val (st .place .marks .passed)))
   where
     Out : State → Type 0
     Out q = Settled (st .place .settings) (mOf st + 1) (q .place)
 
     seen : (k : ℕ) → Settled (st .place .settings) (mOf st + 1) (tried K (entered K k w st) .place)
-    seen k = let a = entered-settled K k w st in settled-on a (a .taken) (tried-settled K (entered K k w st))
+    seen k = grown-settled (grown-on (entered-grown K k w st) (tried-grown K (entered K k w st))) (omega arith)
 
 -- ---- some picks, one after the other
 
@@ -97,10 +84,7 @@ pub walked-settled : (K : Kit) (r : List (List ℕ)) (st : State) (k : ℕ) → 
 unfolding walkFrom
 walked-settled K r st zero = record { settings = refl; taken = let e : mOf st ≡ mOf st + 0 = omega arith in e }
 walked-settled K r st (suc k) =
-    let a = walked-settled K r st k in let t = a .taken in settled-again a (stepped-settled K (pickAt r (suc k)) (walkFrom K r st k)) (omega arith)
-  where
-    settled-again : {s : Settings} {q r : Place} {m k l : ℕ} → Settled s m q → Settled (q .settings) k r → k ≡ l → Settled s l r
-    settled-again a b e = record { settings = b .settings ∙ a .settings; taken = b .taken ∙ e }
+    let a = walked-settled K r st k in let t = a .taken in settled-on a (stepped-settled K (pickAt r (suc k)) (walkFrom K r st k)) (omega arith)
 
 -- ---- before pick 1
 

@@ -73,20 +73,21 @@ open-narrow n measure limit footprint a =
 
 stepped-narrow : {p q : Place} → Sound p → p .window .taken .0 < p .settings .limit → Stepped p q → Narrow q
 stepped-narrow s h t =
+    let u = t .grown in
     let l = s .limit-high in
     let b = s .boards-high in
     let k = s .measure-high in
     let c = s .compositions-high in
     let d = s .tests-high in
-    let e = t .taken in
+    let e = u .taken in
     let f = t .inside in
-    let g = t .bound in
-    let x = t .comps in
-    let y = t .tests in
+    let g = u .bound (s .boundary-high) in
+    let x = u .comps in
+    let y = u .tests in
     record {
-      boards = subst (λ (z : Settings). z .boards < 2 ^ 32) (sym (t .settings)) (small (omega arith));
-      measure = subst (λ (z : Settings). z .measure < 2 ^ 32) (sym (t .settings)) (small (omega arith));
-      limit = subst (λ (z : Settings). z .limit < 2 ^ 32) (sym (t .settings)) (small (omega arith));
+      boards = subst (λ (z : Settings). z .boards < 2 ^ 32) (sym (u .settings)) (small (omega arith));
+      measure = subst (λ (z : Settings). z .measure < 2 ^ 32) (sym (u .settings)) (small (omega arith));
+      limit = subst (λ (z : Settings). z .limit < 2 ^ 32) (sym (u .settings)) (small (omega arith));
       taken = small (omega arith);
       start = small (omega arith);
       boundary = small (omega arith);

@@ -291,7 +291,7 @@ module _ (K : Kit) (wide : Wide K) where
   unfolding again
   again-twin p {a} s high top =
       let t = raised-twin p s top in
-      let g = raised-grown K (state p a) top in
+      let g = raised-grown K (state p a) in
       let gs = g .start in
       let gm = g .taken in
       let gl = limit-of (g .settings) in
@@ -305,7 +305,7 @@ module _ (K : Kit) (wide : Wide K) where
   climb-twin zero p s high top = record { place = refl; level = s }
   climb-twin (suc k) p {a} s high top =
       let t = again-twin p s (omega arith) top in
-      let g = again-grown K (state p a) top in
+      let g = again-grown K (state p a) in
       let gs = g .start in
       let gm = g .taken in
       let gl = limit-of (g .settings) in
@@ -341,7 +341,7 @@ module _ (K : Kit) (wide : Wide K) where
     unfolding startMoved picksTaken
     first-twin k h =
         let t = entered-twin k w p s low top size in
-        let g = entered-grown K k w (state p a) top in
+        let g = entered-grown K k w (state p a) in
         let gs = g .start in
         let gm = g .taken in
         let gl = limit-of (g .settings) in
@@ -358,7 +358,7 @@ module _ (K : Kit) (wide : Wide K) where
     unfolding startMoved picksTaken
     max-twin k h =
         let t = first-twin k h in
-        let g = entered-grown K k w (state p a) top in
+        let g = entered-grown K k w (state p a) in
         let gs = g .start in
         let gm = g .taken in
         let gl = limit-of (g .settings) in

@@ -112,7 +112,7 @@ module _ (p : Place) (w a : List ℕ) (t : Takes p (length a) (length w)) where
       let low = e .start in
       let ahead = e .ahead in
       let top = e .top in
-      let g = entered-grown K k w (state p a) top in
+      let g = entered-grown K k w (state p a) in
       let gs = g .start in
       let gl = limit-of (g .settings) in
       let f = entered-none in
@@ -137,15 +137,16 @@ module _ (p : Place) (w a : List ℕ) (t : Takes p (length a) (length w)) where
       let q = st .place in
       let u = tried K st in
       let r = u .place in
-      let g = entered-grown K k w (state p a) (t .passed .top) in
+      let g = entered-grown K k w (state p a) in
       let n = tried-grown K st in
       let f = entered-fit in
       let ft = f .top in
       let nm = n .taken in
       let nl = limit-of (n .settings) in
+      let still : r .window .taken .0 ≡ q .window .taken .0 = omega arith in
       let kept : length (st .area) ≡ length (u .area) = entered-none .size ∙ sym (tested-none .size) in
       let able : Able (r .settings) (length (u .area)) = subst (λ (i : ℕ). Able (r .settings) i) kept (able-kept (n .settings) (f .able)) in
-      let x : Alike r (u .area) (st .area) = alike-at (n .settings) (n .taken) (tested-as p q (st .area) (g .settings) f) in
+      let x : Alike r (u .area) (st .area) = alike-at (n .settings) still (tested-as p q (st .area) (g .settings) f) in
       let y : Alike r (cleared K u .area) (u .area) = cleared-as p r (u .area) (n .settings ∙ g .settings) able (omega arith) in
       alike-trans
       (cond-ind (λ (z : List ℕ). Alike r z (u .area)) (composes q) (u .area) (st .area) (λ o. alike-refl r (u .area)) (λ o. alike-sym x)) (alike-sym y)

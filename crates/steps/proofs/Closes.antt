@@ -62,13 +62,13 @@ spared-kept s false e = (refl, e)
 pub spared-other : (s : Settings) → spared s ≡ true → s .measure ≢ 1
 spared-other s e one = false≢true (rw one at e)
 
-module _ (p : Place) (a : List ℕ) (w : List ℕ) (h : p .window .taken .0 + 1 ≤ p .settings .limit) where
+module _ (p : Place) (a : List ℕ) (w : List ℕ) where
   -- entered and tested
   tested-at : (k : ℕ) {q r : Place} {b c : List ℕ} → Does (entered (kitOf (p .settings)) k w) p a q b → Does (tried (kitOf (q .settings))) q b r c
       → Does (tried (kitOf (p .settings))) (entered (kitOf (p .settings)) k w (state p a) .place) (entered (kitOf (p .settings)) k w (state p a) .area) r c
   unfolding startMoved picksTaken
   tested-at k e l =
-      let g = entered-grown (kitOf (p .settings)) k w (state p a) h in
+      let g = entered-grown (kitOf (p .settings)) k w (state p a) in
       does-kit tried (entered (kitOf (p .settings)) k w (state p a) .place) p (g .settings) (does-at tried (e .0) (e .1) l)
 
   zero-at : (f : State) (l : f .place .settings ≡ p .settings) {x y : List ℕ} → x ≡ f .area
@@ -86,7 +86,7 @@ module _ (p : Place) (a : List ℕ) (w : List ℕ) (h : p .window .taken .0 + 1 
       let st = entered (kitOf (p .settings)) k′ w (state p a) in
       let n′ : Does (entered (kitOf (p .settings)) k′ w) p a q b = subst (λ (x : ℕ). Does (entered (kitOf (p .settings)) x w) p a q b) e n in
       let t = tested-at k′ n′ l in
-      let g = entered-grown (kitOf (p .settings)) k′ w (state p a) h in
+      let g = entered-grown (kitOf (p .settings)) k′ w (state p a) in
       (t .0, zero-at (tried (kitOf (p .settings)) st) (tried-grown (kitOf (p .settings)) st .settings ∙ g .settings) (t .1) z)
 
   pub max-closes : {k : ℕ} {q r s : Place} {b c d e : List ℕ} → p .window .start .0 + val (p .marks .failed) ≤ p .window .taken .0 + 1
@@ -99,7 +99,7 @@ module _ (p : Place) (a : List ℕ) (w : List ℕ) (h : p .window .taken .0 + 1 
       let st = entered (kitOf (p .settings)) k′ w (state p a) in
       let n′ : Does (entered (kitOf (p .settings)) k′ w) p a q b = subst (λ (x : ℕ). Does (entered (kitOf (p .settings)) x w) p a q b) f n in
       let t = tested-at k′ n′ l in
-      let g = entered-grown (kitOf (p .settings)) k′ w (state p a) h in
+      let g = entered-grown (kitOf (p .settings)) k′ w (state p a) in
       let v = tried-grown (kitOf (p .settings)) st in
       let gs = g .start in
       let gm = g .taken in
@@ -110,7 +110,7 @@ module _ (p : Place) (a : List ℕ) (w : List ℕ) (h : p .window .taken .0 + 1 
       let st2 = tried (kitOf (p .settings)) st in
       let u : Does (climbed (kitOf (p .settings))) (st2 .place) (st2 .area) s d =
       does-kit climbed (st2 .place) p (v .settings ∙ g .settings) (does-at climbed (t .0) (t .1) m) in
-      let o = climbed-along (kitOf (p .settings)) st2 (omega arith) (omega arith) .1 .1 .grown .settings in
+      let o = climbed-along (kitOf (p .settings)) st2 (omega arith) .1 .1 .grown .settings in
       rw live (u .0, zero-at (climbed (kitOf (p .settings)) st2) (o ∙ v .settings ∙ g .settings) (u .1) z)
 
   -- the place that the pick is entered in has the measure of p
@@ -118,7 +118,7 @@ module _ (p : Place) (a : List ℕ) (w : List ℕ) (h : p .window .taken .0 + 1 
       → (not kept && spared (p .settings)) ≡ true → spared (q .settings) ≡ true
   unfolding startMoved picksTaken
   entered-spared k kept {q} {b} d e =
-      let g = entered-grown (kitOf (p .settings)) k w (state p a) h in
+      let g = entered-grown (kitOf (p .settings)) k w (state p a) in
       ap spared (ap (λ (x : Place). x .settings) (d .0) ∙ g .settings) ∙ spared-kept (p .settings) kept e .1
 
   pub bare-closes : (kept : Bool) {k : ℕ} {q r : Place} {b c : List ℕ} → (not kept && spared (p .settings)) ≡ true → k ≡ rise p
@@ -130,14 +130,14 @@ module _ (p : Place) (a : List ℕ) (w : List ℕ) (h : p .window .taken .0 + 1 
       let k′ = val (p .marks .passed) in
       let n′ : Does (entered (kitOf (p .settings)) k′ w) p a q b = subst (λ (x : ℕ). Does (entered (kitOf (p .settings)) x w) p a q b)
       (moves-min p (spared-other (p .settings) (o .1)) e) n in
-      let g = entered-grown (kitOf (p .settings)) k′ w (state p a) h in
+      let g = entered-grown (kitOf (p .settings)) k′ w (state p a) in
       let d = does-kit bareTried (entered (kitOf (p .settings)) k′ w (state p a) .place) p (g .settings) (does-at bareTried (n′ .0) (n′ .1) l) in
       rw (o .0, o .1) d
 
 -- a rise with its test
-pub again-closes : (p : Place) (a : List ℕ) {q r : Place} {b c : List ℕ} → p .window .taken .0 ≤ p .settings .limit
+pub again-closes : (p : Place) (a : List ℕ) {q r : Place} {b c : List ℕ}
     → Does (raised (kitOf (p .settings))) p a q b → Does (tried (kitOf (q .settings))) q b r c → Does (again (kitOf (p .settings))) p a r c
 unfolding again
-again-closes p a h d l =
-    let g = raised-grown (kitOf (p .settings)) (state p a) h in
+again-closes p a d l =
+    let g = raised-grown (kitOf (p .settings)) (state p a) in
     does-kit tried (raised (kitOf (p .settings)) (state p a) .place) p (g .settings) (does-at tried (d .0) (d .1) l)

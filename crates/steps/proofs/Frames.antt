@@ -20,6 +20,7 @@ use Rattle.place.specs.Places.{picksTaken, startMoved, boundaryMoved, charged, 
 use Rattle.model.proofs.Bits.{val-le}
 use Rattle.steps.specs.Fit.{rise}
 use Rattle.steps.proofs.Fit.{limit-of}
+use Rattle.steps.proofs.Grown.{entered-grown, tried-grown, raised-grown}
 use Rattle.steps.specs.Walk.{State, state, ladder, written, rebuilt, joinedArea, joined, more, far, extendedBy, extended, entered, windowArea, onLeft}
 use Rattle.steps.specs.Walk.{onRight, windowed, judged, tried, cleared, minStep, raisedBy, raised, again, climb, climbed, ended, maxStep, stepped}
 
@@ -80,44 +81,6 @@ aside-from {from} {less} {upto} {limit} {j} o h = record {
       (o .side);
   right = o .right;
 }
-
--- ---- the numbers
-
--- from st on the settings stay; m and s; and no part below `from` lies between s + 1 and m where the left ladder is built anew: from ≤ s + 1, or
--- from ≤ b + 2
-pub record Numbers (st q : State) (m s from : ℕ) : Type 0 where
-  pub settings : q .place .settings ≡ st .place .settings
-  pub taken : q .place .window .taken .0 ≡ m
-  pub start : q .place .window .start .0 ≡ s
-  pub reach : from ≤ max (q .place .window .start .0 + 1) (q .place .window .boundary .0 + 2)
-
-pub tried-at : (K : Kit) (st : State) (from : ℕ) → from ≤ max (st .place .window .start .0 + 1) (st .place .window .boundary .0 + 2)
-    → Numbers st (tried K st) (st .place .window .taken .0) (st .place .window .start .0) from
-unfolding tried judged windowed charged tested
-tried-at K st from h = record { settings = refl; taken = refl; start = refl; reach = h }
-
-pub raised-at : (K : Kit) (st : State) (from : ℕ) → from ≤ max (st .place .window .start .0 + 1) (st .place .window .boundary .0 + 2)
-    → Numbers st (raised K st) (st .place .window .taken .0) (st .place .window .start .0 + 1) from
-unfolding raised startMoved raisedBy rebuilt charged boundaryMoved
-raised-at K st from h = go (ltb (st .place .window .boundary .0 + 1) (st .place .window .start .0 + 1)) (λ t. ltb→lt (st .place .window .boundary .0 + 1)
-    (st .place .window .start .0 + 1) t)
-  where
-    go : (x : Bool) → (T x → st .place .window .boundary .0 + 1 < st .place .window .start .0 + 1)
-        → Numbers st (raisedBy K x (state (startMoved (st .place) 1) (st .area))) (st .place .window .taken .0) (st .place .window .start .0 + 1) from
-    go true f = let g = f tt in record { settings = refl; taken = refl; start = refl; reach = omega arith }
-    go false f = record { settings = refl; taken = refl; start = refl; reach = omega arith }
-
-pub entered-at : (K : Kit) (k : ℕ) (w : List ℕ) (st : State) → Numbers st (entered K k w st) (st .place .window .taken .0 + 1)
-    (st .place .window .start .0 + k) (max (st .place .window .start .0 + k) (st .place .window .boundary .0 + 2))
-unfolding entered extended written startMoved picksTaken extendedBy joined rebuilt charged boundaryMoved
-entered-at K k w st = go (ltb (st .place .window .boundary .0 + 1) (st .place .window .start .0 + k)) (λ t. ltb→lt (st .place .window .boundary .0 + 1)
-    (st .place .window .start .0 + k) t)
-  where
-    go : (x : Bool) → (T x → st .place .window .boundary .0 + 1 < st .place .window .start .0 + k)
-        → Numbers st (extendedBy K x (written K k w st)) (st .place .window .taken .0 + 1) (st .place .window .start .0 + k)
-        (max (st .place .window .start .0 + k) (st .place .window .boundary .0 + 2))
-    go true f = let g = f tt in record { settings = refl; taken = refl; start = refl; reach = omega arith }
-    go false f = record { settings = refl; taken = refl; start = refl; reach = omega arith }
 
 -- ---- the left ladder
 
@@ -362,12 +325,14 @@ module _ (K : Kit) where
         let lim = st .place .settings .limit in
         let q = raised K st in
         let r = tried K q in
-        let n = raised-at K st from reach in
-        let o = tried-at K q from (n .reach) in
+        let n = raised-grown K st in
+        let o = tried-grown K q in
         let n0 = n .taken in
         let n1 = n .start in
+        let n2 = n .reach in
         let o0 = o .taken in
         let o1 = o .start in
+        let o2 = o .reach in
         let f = raised-frame st rm top in
         let f0 = limit-of (f .settings) in
         let rmq = frame-room K st q _ f rm in
@@ -376,7 +341,7 @@ module _ (K : Kit) where
         let rmr = frame-room K q r _ g rmq in
         let e : m ≡ r .place .window .taken .0 = omega arith in
         let d : lim ≡ r .place .settings .limit = omega arith in
-        let h = climb-frame k r from rmr (omega arith) (omega arith) (omega arith) (o .reach) in
+        let h = climb-frame k r from rmr (omega arith) (omega arith) (omega arith) (omega arith) in
         then K st q (climb K k r) _ (Beside from m lim) (Beside from m lim) f
         (then K q r (climb K k r) _ _ (Beside from m lim) g h (λ j x. λ (y : j ≡ q .place .settings .limit + 2). x .window (omega arith))
         (λ j x. subst (λ (v : ℕ). Beside from v (r .place .settings .limit) j) e (subst (λ (v : ℕ). Beside from m v j) d x)))
@@ -393,7 +358,7 @@ module _ (K : Kit) where
     first-frame k w st rm low high top size =
         let q = entered K k w st in
         let f = entered-frame k w st rm low top size in
-        let n1 = entered-at K k w st .start in
+        let n1 = entered-grown K k w st .start in
         let f0 = limit-of (f .settings) in
         then K st q (tried K q) _ _ _ f (tried-frame q (frame-room K st q _ f rm) (omega arith) (omega arith)) (λ j o. (o .beside .aside, o .own))
         (λ j o. λ (y : j ≡ q .place .settings .limit + 2). o .beside .window (omega arith))
@@ -429,19 +394,21 @@ module _ (K : Kit) where
         let lim = st .place .settings .limit in
         let q = entered K k w st in
         let r = tried K q in
-        let n = entered-at K k w st in
-        let o = tried-at K q from (n .reach) in
+        let n = entered-grown K k w st in
+        let o = tried-grown K q in
         let n0 = n .taken in
         let n1 = n .start in
+        let n2 = n .reach in
         let o0 = o .taken in
         let o1 = o .start in
+        let o2 = o .reach in
         let f = first-frame k w st rm low high top size in
         let f0 = limit-of (f .settings) in
         let e : m ≡ r .place .window .taken .0 = omega arith in
         let d : lim ≡ r .place .settings .limit = omega arith in
         then K st r (climb K (r .place .window .taken .0 - r .place .window .start .0) r) _ _ _ f
         (climb-frame (r .place .window .taken .0 - r .place .window .start .0) r from (frame-room K st r _ f rm) (omega arith) (omega arith) (omega arith)
-        (o .reach))
+        (omega arith))
         (λ j x. x) (λ j x. subst (λ (v : ℕ). Beside from v (r .place .settings .limit) j) e (subst (λ (v : ℕ). Beside from m v j) d (x .beside)))
 
     -- measure 1

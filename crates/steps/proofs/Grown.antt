@@ -1,5 +1,5 @@
 -- What a step within a pick does to the numbers of a place. Assumes nothing.
-use Prim.Native.Nat.{ℕ, _+_, _*_, _≤_, _<_}
+use Prim.Native.Nat.{ℕ, _+_, _*_, _≤_, _<_, max}
 use native.Mathlib.Nat.{le-refl}
 use native.Mathlib.Omega.{arith}
 use mathlib.Core.Path.{_≡_, refl, ap, _∙_}
@@ -14,48 +14,84 @@ use Rattle.steps.specs.Walk.{State, state, kitOf, more, far, onLeft, onR
 use Rattle.steps.specs.Walk.{tried, raisedBy, raised, again}
 use Rattle.steps.specs.Fit.{Lends, Fit, Entry, Does}
 use Rattle.place.specs.Places.{perLadder}
-use Rattle.steps.proofs.Fit.{able-kept, limit-of, lends-kept, fit-at, entry-fit}
+use Rattle.steps.proofs.Fit.{able-kept, limit-of, lends-kept, fit-at}
 use Rattle.model.proofs.Bits.{val-le}
 
--- the start rises by k; at most c compositions and t tests are charged
-pub record Grown (p q : Place) (k c t : ℕ) : Type 0 where
+-- What a step does to the numbers of a place: m picks are taken and the start rises by k; at most c compositions and t tests are charged. Only parts
+-- from max (s + 1, b + 2) on are free to be built anew, and that bound never falls.
+pub record Grown (p q : Place) (m k c t : ℕ) : Type 0 where
   pub settings : q .settings ≡ p .settings
-  pub taken : q .window .taken .0 ≡ p .window .taken .0
+  pub taken : q .window .taken .0 ≡ p .window .taken .0 + m
   pub start : q .window .start .0 ≡ p .window .start .0 + k
-  pub bound : p .window .boundary .0 ≤ p .window .taken .0 → q .window .boundary .0 ≤ p .window .taken .0
+  pub reach : max (p .window .start .0 + 1) (p .window .boundary .0 + 2) ≤ max (q .window .start .0 + 1) (q .window .boundary .0 + 2)
+  pub bound : p .window .boundary .0 ≤ p .window .taken .0 → q .window .boundary .0 ≤ q .window .taken .0
   pub comps : q .counts .compositions .0 ≤ p .counts .compositions .0 + c
   pub tests : q .counts .tests .0 ≤ p .counts .tests .0 + t
 
-pub grown-on : {p q r : Place} {k c t i d u : ℕ} → Grown p q k c t → Grown q r i d u → Grown p r (k + i) (c + d) (t + u)
+-- nothing done
+pub grown-none : (p : Place) → Grown p p 0 0 0 0
+grown-none p = record {
+  settings = refl;
+  taken = omega arith;
+  start = omega arith;
+  reach = le-refl (max (p .window .start .0 + 1) (p .window .boundary .0 + 2));
+  bound = λ x. x;
+  comps = omega arith;
+  tests = omega arith;
+}
+
+pub grown-on : {p q r : Place} {m k c t n i d u : ℕ} → Grown p q m k c t → Grown q r n i d u → Grown p r (m + n) (k + i) (c + d) (t + u)
 grown-on g h =
+    let gm = g .taken in
     let gs = g .start in
+    let gr = g .reach in
     let gc = g .comps in
     let gt = g .tests in
-    let gm = g .taken in
+    let hm = h .taken in
     let hs = h .start in
+    let hr = h .reach in
     let hc = h .comps in
     let ht = h .tests in
     record {
       settings = h .settings ∙ g .settings;
-      taken = h .taken ∙ g .taken;
+      taken = omega arith;
       start = omega arith;
-      bound = λ x. let y = g .bound x in let w = h .bound (omega arith) in omega arith;
+      reach = omega arith;
+      bound = λ x. h .bound (g .bound x);
       comps = omega arith;
       tests = omega arith;
     }
 
--- more may be charged than is
-grown-most : {p q : Place} {k c d t : ℕ} → Grown p q k c t → c ≤ d → Grown p q k d t
-grown-most g h = let c = g .comps in record {
+-- the same numbers, and more may be charged than is
+pub grown-to : {p q : Place} {m k c t n i d u : ℕ} → Grown p q m k c t → m ≡ n → k ≡ i → c ≤ d → t ≤ u → Grown p q n i d u
+grown-to g e h a b =
+    let gm = g .taken in
+    let gs = g .start in
+    let gc = g .comps in
+    let gt = g .tests in
+    record {
+      settings = g .settings;
+      taken = omega arith;
+      start = omega arith;
+      reach = g .reach;
+      bound = g .bound;
+      comps = omega arith;
+      tests = omega arith;
+    }
+
+-- the compositions counted otherwise
+pub grown-counted : {p q : Place} {m k c d t : ℕ} → Grown p q m k c t → q .counts .compositions .0 ≤ p .counts .compositions .0 + d → Grown p q m k d t
+grown-counted g h = record {
   settings = g .settings;
   taken = g .taken;
   start = g .start;
+  reach = g .reach;
   bound = g .bound;
-  comps = omega arith;
+  comps = h;
   tests = g .tests;
 }
 
-pub fit-grown : {p q : Place} {k c t words d e : ℕ} → Grown p q k c t → p .window .start .0 + k ≤ p .window .taken .0 → c + e ≤ d → t + e ≤ d
+pub fit-grown : {p q : Place} {k c t words d e : ℕ} → Grown p q 0 k c t → p .window .start .0 + k ≤ p .window .taken .0 → c + e ≤ d → t + e ≤ d
     → Fit p words d → Fit q words e
 fit-grown g s c t f =
     let gm = g .taken in
@@ -81,47 +117,52 @@ fit-grown g s c t f =
 -- ---- the steps
 
 module _ (K : Kit) (st : State) where
-  pub rebuilt-grown : st .place .window .taken .0 ≤ st .place .settings .limit → Grown (st .place) (rebuilt K st .place) 0 (st .place .settings .limit) 0
+  rebuilt-grown : st .place .window .boundary .0 + 1 < st .place .window .start .0
+      → Grown (st .place) (rebuilt K st .place) 0 0 (st .place .window .taken .0) 0
   unfolding rebuilt charged boundaryMoved
   rebuilt-grown h = record {
     settings = refl;
-    taken = refl;
+    taken = omega arith;
     start = omega arith;
+    reach = omega arith;
     bound = λ x. le-refl (st .place .window .taken .0);
     comps = omega arith;
     tests = omega arith;
   }
 
-  joined-grown : Grown (st .place) (joined K st .place) 0 1 0
+  joined-grown : Grown (st .place) (joined K st .place) 0 0 1 0
   unfolding joined charged
   joined-grown = record {
     settings = refl;
-    taken = refl;
+    taken = omega arith;
     start = omega arith;
+    reach = omega arith;
     bound = λ x. x;
     comps = omega (arith, val-le (more (st .place)));
     tests = omega arith;
   }
 
-  pub windowed-grown : Grown (st .place) (windowed K st .place) 0 1 0
+  pub windowed-grown : Grown (st .place) (windowed K st .place) 0 0 1 0
   unfolding windowed charged
   windowed-grown = record {
     settings = refl;
-    taken = refl;
+    taken = omega arith;
     start = omega arith;
+    reach = omega arith;
     bound = λ x. x;
     comps = omega (arith, val-le (onLeft (st .place) && onRight (st .place)));
     tests = omega arith;
   }
 
-  pub tried-grown : Grown (st .place) (tried K st .place) 0 1 1
-  unfolding tried judged tested windowed charged
-  tried-grown = record {
+  judged-grown : Grown (st .place) (judged K st .place) 0 0 0 1
+  unfolding judged tested
+  judged-grown = record {
     settings = refl;
-    taken = refl;
+    taken = omega arith;
     start = omega arith;
+    reach = omega arith;
     bound = λ x. x;
-    comps = omega (arith, val-le (onLeft (st .place) && onRight (st .place)));
+    comps = omega arith;
     tests = omega arith;
   }
 
@@ -131,16 +172,15 @@ module _ (K : Kit) (st : State) where
   tried-bound = refl
 
   -- the ladders take in a pick
-  extended-grown-by : (x : Bool) → st .place .window .taken .0 ≤ st .place .settings .limit
-      → Grown (st .place) (extendedBy K x st .place) 0 (st .place .settings .limit + 1) 0
+  extended-grown-by : (x : Bool) → far (st .place) ≡ x → Grown (st .place) (extendedBy K x st .place) 0 0 (st .place .window .taken .0 + 1) 0
   unfolding extendedBy
-  extended-grown-by true h = grown-most (rebuilt-grown h) (omega arith)
-  extended-grown-by false h = grown-most joined-grown (omega arith)
+  extended-grown-by true e =
+      grown-to (rebuilt-grown (ltb-true (st .place .window .boundary .0 + 1) (st .place .window .start .0) e)) refl refl (omega arith) (omega arith)
+  extended-grown-by false e = grown-to joined-grown refl refl (omega arith) (omega arith)
 
-  pub extended-grown : st .place .window .taken .0 ≤ st .place .settings .limit
-      → Grown (st .place) (extended K st .place) 0 (st .place .settings .limit + 1) 0
+  extended-grown : Grown (st .place) (extended K st .place) 0 0 (st .place .window .taken .0 + 1) 0
   unfolding extended
-  extended-grown h = extended-grown-by (far (st .place)) h
+  extended-grown = extended-grown-by (far (st .place)) refl
 
   -- and then the start is not beyond b + 1
   extended-near-by : (x : Bool) → far (st .place) ≡ x → st .place .window .start .0 ≤ st .place .window .taken .0
@@ -154,12 +194,26 @@ module _ (K : Kit) (st : State) where
   unfolding extended
   extended-near h = extended-near-by (far (st .place)) refl h
 
+pub tried-grown : (K : Kit) (st : State) → Grown (st .place) (tried K st .place) 0 0 1 1
+unfolding tried
+tried-grown K st = grown-on (windowed-grown K st) (judged-grown K (windowed K st))
+
 -- ---- a new pick
 
-pub entered-grown : (K : Kit) (k : ℕ) (w : List ℕ) (st : State) → st .place .window .taken .0 + 1 ≤ st .place .settings .limit
-    → Grown (startMoved (picksTaken (st .place) 1) k) (entered K k w st .place) 0 (st .place .settings .limit + 1) 0
+pub entered-grown : (K : Kit) (k : ℕ) (w : List ℕ) (st : State) → Grown (st .place) (entered K k w st .place) 1 k (st .place .window .taken .0 + 2) 0
 unfolding entered written startMoved picksTaken
-entered-grown K k w st h = extended-grown K (written K k w st) h
+entered-grown K k w st = grown-to (grown-on taken (extended-grown K (written K k w st))) (omega arith) (omega arith) (omega arith) (omega arith)
+  where
+    taken : Grown (st .place) (startMoved (picksTaken (st .place) 1) k) 1 k 0 0
+    taken = record {
+      settings = refl;
+      taken = refl;
+      start = refl;
+      reach = omega arith;
+      bound = λ x. omega arith;
+      comps = omega arith;
+      tests = omega arith;
+    }
 
 pub entered-near : (K : Kit) (k : ℕ) (w : List ℕ) (st : State) → st .place .window .start .0 + k ≤ st .place .window .taken .0 + 1
     → entered K k w st .place .window .start .0 ≤ entered K k w st .place .window .boundary .0 + 1
@@ -168,33 +222,31 @@ entered-near K k w st h = extended-near K (written K k w st) h
 
 -- ---- a rise
 
-pub raised-grown : (K : Kit) (st : State) → st .place .window .taken .0 ≤ st .place .settings .limit
-    → Grown (st .place) (raised K st .place) 1 (st .place .settings .limit) 0
-unfolding raised raisedBy rebuilt charged boundaryMoved startMoved
-raised-grown K st h = go (far (startMoved (st .place) 1))
+pub raised-grown : (K : Kit) (st : State) → Grown (st .place) (raised K st .place) 0 1 (st .place .window .taken .0) 0
+unfolding raised raisedBy startMoved
+raised-grown K st = go (far (startMoved (st .place) 1)) refl
   where
-    go : (x : Bool) → Grown (st .place) (raisedBy K x (state (startMoved (st .place) 1) (st .area)) .place) 1 (st .place .settings .limit) 0
-    go true = record {
+    risen : Grown (st .place) (startMoved (st .place) 1) 0 1 0 0
+    risen = record {
       settings = refl;
-      taken = refl;
+      taken = omega arith;
       start = refl;
-      bound = λ x. le-refl (st .place .window .taken .0);
-      comps = omega arith;
-      tests = omega arith;
-    }
-    go false = record {
-      settings = refl;
-      taken = refl;
-      start = refl;
+      reach = omega arith;
       bound = λ x. x;
       comps = omega arith;
       tests = omega arith;
     }
 
-pub again-grown : (K : Kit) (st : State) → st .place .window .taken .0 ≤ st .place .settings .limit
-    → Grown (st .place) (again K st .place) (1 + 0) (st .place .settings .limit + 1) (0 + 1)
+    go : (x : Bool) → far (startMoved (st .place) 1) ≡ x
+        → Grown (st .place) (raisedBy K x (state (startMoved (st .place) 1) (st .area)) .place) 0 1 (st .place .window .taken .0) 0
+    go true e =
+        let f = ltb-true (st .place .window .boundary .0 + 1) (st .place .window .start .0 + 1) e in
+        grown-to (grown-on risen (rebuilt-grown K (state (startMoved (st .place) 1) (st .area)) f)) (omega arith) (omega arith) (omega arith) (omega arith)
+    go false e = grown-to risen refl refl (omega arith) (omega arith)
+
+pub again-grown : (K : Kit) (st : State) → Grown (st .place) (again K st .place) 0 1 (st .place .window .taken .0 + 1) 1
 unfolding again
-again-grown K st h = grown-on (raised-grown K st h) (tried-grown K (raised K st))
+again-grown K st = grown-on (raised-grown K st) (tried-grown K (raised K st))
 
 -- A rise builds the left ladder only where the boundary is behind the last pick, and puts it there: in one pick that happens once. Other rises
 -- charge c compositions at most.
@@ -237,17 +289,35 @@ again-once K st h =
 -- ---- what a step may go on from
 
 -- the place that code comes to, where its own is known to have grown
-grown-fit : {p r q : Place} {m n k c t d e : ℕ} → q ≡ r → m ≡ n → Grown p r k c t → p .window .start .0 + k ≤ p .window .taken .0
+grown-fit : {p r q : Place} {m n k c t d e : ℕ} → q ≡ r → m ≡ n → Grown p r 0 k c t → p .window .start .0 + k ≤ p .window .taken .0
     → c + e ≤ d → t + e ≤ d → Fit p n d → Fit q m e
 grown-fit h l g s c t f = fit-at h l (fit-grown g s c t f)
 
 pub enter-tries : (p : Place) (a : List ℕ) (k : ℕ) (w : List ℕ) {q : Place} {b : List ℕ} → Entry p k (length a)
     → Does (entered (kitOf (p .settings)) k w) p a q b → length b ≡ length a → Fit q (length b) (3 * perLadder + 1)
-unfolding startMoved picksTaken
 enter-tries p a k w e d l =
+    let g = entered-grown (kitOf (p .settings)) k w (state p a) in
+    let gm = g .taken in
+    let gs = g .start in
+    let gl = limit-of (g .settings) in
+    let gc = g .comps in
+    let gt = g .tests in
+    let es = e .start in
     let ea = e .able .cap in
     let eh = e .ahead in
-    grown-fit (d .0) l (entered-grown (kitOf (p .settings)) k w (state p a) (e .top)) (omega arith) (omega arith) (omega arith) (entry-fit e)
+    let et = e .top in
+    let eb = g .bound (e .bound) in
+    let ec = e .comps in
+    let eu = e .tests in
+    fit-at (d .0) l (record {
+      able = able-kept (g .settings) (e .able);
+      start = omega arith;
+      inside = omega arith;
+      top = omega arith;
+      bound = omega arith;
+      comps = omega arith;
+      tests = omega arith;
+    })
 
 pub try-climbs : (p : Place) (a : List ℕ) {q : Place} {b : List ℕ} → Fit p (length a) (3 * perLadder + 1)
     → Does (tried (kitOf (p .settings))) p a q b → length b ≡ length a → Fit q (length b) (3 * perLadder)
@@ -257,26 +327,11 @@ pub raise-tries : (p : Place) (a : List ℕ) {q : Place} {b : List ℕ} → Fit 
     → Does (raised (kitOf (p .settings))) p a q b → length b ≡ length a → Fit q (length b) 1
 raise-tries p a f h d l =
     let fc = f .able .cap in
-    grown-fit (d .0) l (raised-grown (kitOf (p .settings)) (state p a) (f .top)) (omega arith) (omega arith) (omega arith) f
+    let ft = f .top in
+    grown-fit (d .0) l (raised-grown (kitOf (p .settings)) (state p a)) (omega arith) (omega arith) (omega arith) f
 
 -- ---- what is lent keeps its length, and a place its settings
 
-grown-lends : {p r q : Place} {k c t v n : ℕ} → q ≡ r → Grown p r k c t → v ≡ n → Lends (p .settings) n → Lends (q .settings) v
-grown-lends h g e l = lends-kept (ap (λ (x : Place). x .settings) h ∙ g .settings) e l
-
-pub entered-lends : (p : Place) (a : List ℕ) (k : ℕ) (w : List ℕ) {q : Place} {b : List ℕ} {v n : ℕ} → Entry p k (length a)
-    → Does (entered (kitOf (p .settings)) k w) p a q b → v ≡ n → Lends (p .settings) n → Lends (q .settings) v
-unfolding startMoved picksTaken
-entered-lends p a k w e d l h = grown-lends (d .0) (entered-grown (kitOf (p .settings)) k w (state p a) (e .top)) l h
-
-pub tried-lends : (p : Place) (a : List ℕ) {q : Place} {b : List ℕ} {v n : ℕ} → Does (tried (kitOf (p .settings))) p a q b → v ≡ n
-    → Lends (p .settings) n → Lends (q .settings) v
-tried-lends p a d l h = grown-lends (d .0) (tried-grown (kitOf (p .settings)) (state p a)) l h
-
-pub raised-lends : (p : Place) (a : List ℕ) {q : Place} {b : List ℕ} {v n : ℕ} → p .window .taken .0 ≤ p .settings .limit
-    → Does (raised (kitOf (p .settings))) p a q b → v ≡ n → Lends (p .settings) n → Lends (q .settings) v
-raised-lends p a f d l h = grown-lends (d .0) (raised-grown (kitOf (p .settings)) (state p a) f) l h
-
-pub again-lends : (p : Place) (a : List ℕ) {q : Place} {b : List ℕ} {v n : ℕ} → p .window .taken .0 ≤ p .settings .limit
-    → Does (again (kitOf (p .settings))) p a q b → v ≡ n → Lends (p .settings) n → Lends (q .settings) v
-again-lends p a f d l h = grown-lends (d .0) (again-grown (kitOf (p .settings)) (state p a) f) l h
+pub grown-lends : (f : State → State) (p : Place) (a : List ℕ) {q : Place} {b : List ℕ} {m k c t v n : ℕ} → Does f p a q b
+    → Grown p (f (state p a) .place) m k c t → v ≡ n → Lends (p .settings) n → Lends (q .settings) v
+grown-lends f p a d g e l = lends-kept (ap (λ (x : Place). x .settings) (d .0) ∙ g .settings) e l

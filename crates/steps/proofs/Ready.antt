@@ -13,12 +13,12 @@ use Rattle.model.proofs.Logic.{eq-or}
 use Rattle.measures.specs.Kit.{hops01}
 use Rattle.area.specs.Parts.{partSize}
 use Rattle.place.specs.declared.Place.{Place}
-use Rattle.place.specs.Places.{Sound, picksTaken, startMoved, perPick, mostCounted}
+use Rattle.place.specs.Places.{Sound, picksTaken, perPick, mostCounted}
 use Rattle.steps.specs.Walk.{state, kitOf, entered, tried, cleared, minStep, climbed, ended, maxStep, stepped}
 use Rattle.steps.specs.Fit.{rise, Takes, Ready}
-use Rattle.steps.proofs.Fit.{able-kept, limit-of}
+use Rattle.steps.proofs.Fit.{able-kept}
 use Rattle.model.proofs.Bits.{val-le}
-use Rattle.steps.proofs.Grown.{Grown, grown-on, entered-grown, entered-near, tried-grown, tried-bound}
+use Rattle.steps.proofs.Grown.{Grown, grown-on, grown-to, entered-grown, entered-near, tried-grown, tried-bound}
 use Rattle.steps.proofs.Rises.{climbed-along}
 use Rattle.area.proofs.Laws.{kit-wide, own-wide}
 use Rattle.steps.proofs.Frames.{Frame, stepped-frame, Untouched}
@@ -72,45 +72,18 @@ sound-takes s room h e =
 
 -- ---- what `step` leaves
 
+-- a pick is taken, and the start rises by some number; where both were so before, it is within b + 1 and within the picks taken
 pub record Stepped (p q : Place) : Type 0 where
-  pub settings : q .settings ≡ p .settings
-  pub taken : q .window .taken .0 ≡ p .window .taken .0 + 1
-  pub start : p .window .start .0 ≤ q .window .start .0
+  pub by : ℕ
+  pub grown : Grown p q 1 by perPick perPick
   pub near : q .window .start .0 ≤ q .window .boundary .0 + 1
-  pub bound : q .window .boundary .0 ≤ q .window .taken .0
   pub inside : q .window .start .0 ≤ q .window .taken .0
-  pub comps : q .counts .compositions .0 ≤ p .counts .compositions .0 + perPick
-  pub tests : q .counts .tests .0 ≤ p .counts .tests .0 + perPick
-
--- from the place with its pick taken and its start moved
-stepped-by : (p : Place) {q : Place} (k : ℕ) {i c t : ℕ} → Grown (startMoved (picksTaken p 1) k) q i c t
-    → p .window .boundary .0 ≤ p .window .taken .0 → p .window .start .0 + k + i ≤ p .window .taken .0 + 1
-    → q .window .start .0 ≤ q .window .boundary .0 + 1
-    → c ≤ perPick → t ≤ perPick → Stepped p q
-unfolding startMoved picksTaken
-stepped-by p k g b s n c t =
-    let gs = g .start in
-    let gm = g .taken in
-    let gc = g .comps in
-    let gt = g .tests in
-    let gb = g .bound (omega arith) in
-    record {
-      settings = g .settings;
-      taken = g .taken;
-      start = omega arith;
-      near = n;
-      bound = omega arith;
-      inside = omega arith;
-      comps = omega arith;
-      tests = omega arith;
-    }
 
 module _ (p : Place) (a w : List ℕ) {words : ℕ} (r : Ready p words) (h : p .window .taken .0 < p .settings .limit) where
   -- entered and tested
-  tried-on : (k : ℕ) → Grown (startMoved (picksTaken p 1) k) (tried (kitOf (p .settings)) (entered (kitOf (p .settings)) k w (state p a)) .place) (0 + 0)
-      (p .settings .limit + 1 + 1) (0 + 1)
-  tried-on k = grown-on (entered-grown (kitOf (p .settings)) k w (state p a) (omega arith)) (tried-grown (kitOf (p .settings))
-      (entered (kitOf (p .settings)) k w (state p a)))
+  tried-on : (k : ℕ) → Grown p (tried (kitOf (p .settings)) (entered (kitOf (p .settings)) k w (state p a)) .place) 1 k (p .window .taken .0 + 3) 1
+  tried-on k = grown-to (grown-on (entered-grown (kitOf (p .settings)) k w (state p a)) (tried-grown (kitOf (p .settings)) (entered (kitOf (p .settings)) k w
+      (state p a)))) refl (omega arith) (omega arith) (omega arith)
 
   tried-near : (k : ℕ) → p .window .start .0 + k ≤ p .window .taken .0 + 1
       → tried (kitOf (p .settings)) (entered (kitOf (p .settings)) k w (state p a)) .place .window .start .0 ≤ tried (kitOf (p .settings))
@@ -128,11 +101,13 @@ module _ (p : Place) (a w : List ℕ) {words : ℕ} (r : Ready p words) (h : p .
       let k = val (p .marks .passed) in
       let cap = r .able .cap in
       let s = ahead-passed r in
-      stepped-by p k (tried-on k) (r .bound) (omega arith) (tried-near k s) (omega arith) (omega arith)
+      let g = tried-on k in
+      let gs = g .start in
+      let gm = g .taken in
+      record { by = k; grown = grown-to g refl refl (omega arith) (omega arith); near = tried-near k s; inside = omega arith }
 
   climbed-place : Stepped p (climbed (kitOf (p .settings)) (tried (kitOf (p .settings)) (entered (kitOf (p .settings)) (val (p .marks .failed)) w
       (state p a))) .place)
-  unfolding startMoved picksTaken
   climbed-place =
       let k = val (p .marks .failed) in
       let st = tried (kitOf (p .settings)) (entered (kitOf (p .settings)) k w (state p a)) in
@@ -142,10 +117,17 @@ module _ (p : Place) (a w : List ℕ) {words : ℕ} (r : Ready p words) (h : p .
       let g = tried-on k in
       let gs = g .start in
       let gm = g .taken in
-      let gl = limit-of (g .settings) in
-      let u = climbed-along (kitOf (p .settings)) st (omega arith) (omega arith) in
+      let u = climbed-along (kitOf (p .settings)) st (omega arith) in
       let most = u .1 .0 in
-      stepped-by p k (grown-on g (u .1 .1 .grown)) (r .bound) (omega arith) (u .1 .1 .near (tried-near k s)) (omega arith) (omega arith)
+      let v = u .1 .1 .grown in
+      let vs = v .start in
+      let vm = v .taken in
+      record {
+        by = k + u .0;
+        grown = grown-to (grown-on g v) (omega arith) refl (omega arith) (omega arith);
+        near = u .1 .1 .near (tried-near k s);
+        inside = omega arith;
+      }
 
   max-place-by : (x : Bool)
       → Stepped p (cond x (state (picksTaken p 1) a) (cleared (kitOf (p .settings)) (climbed (kitOf (p .settings)) (tried (kitOf (p .settings))
@@ -155,14 +137,18 @@ module _ (p : Place) (a w : List ℕ) {words : ℕ} (r : Ready p words) (h : p .
       let n = r .near in
       let b = r .bound in
       record {
-        settings = refl;
-        taken = refl;
-        start = omega arith;
+        by = 0;
+        grown = record {
+          settings = refl;
+          taken = refl;
+          start = omega arith;
+          reach = omega arith;
+          bound = λ x. omega arith;
+          comps = omega arith;
+          tests = omega arith;
+        };
         near = n;
-        bound = omega arith;
         inside = omega arith;
-        comps = omega arith;
-        tests = omega arith;
       }
   max-place-by false = climbed-place
 
@@ -190,15 +176,16 @@ stepped-framed p a w r h e =
 
 pub ready-on : {p q : Place} {words : ℕ} → Stepped p q → Ready p words → Ready q words
 ready-on s r =
-    let m = s .taken in
+    let g = s .grown in
+    let m = g .taken in
     let i = s .inside in
-    let l = s .start in
+    let l = g .start in
     let rl = r .start in
     record {
-      able = able-kept (s .settings) (r .able);
+      able = able-kept (g .settings) (r .able);
       start = omega arith;
       near = s .near;
-      bound = s .bound;
+      bound = g .bound (r .bound);
       inside = λ x. i;
       none-failed = λ z. absurd (omega arith);
       none-passed = λ z. absurd (omega arith);

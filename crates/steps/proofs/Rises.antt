@@ -13,55 +13,39 @@ use Rattle.place.specs.declared.Place.{Place}
 use Rattle.steps.specs.Walk.{State, state, kitOf, again, climb, climbed}
 use Rattle.steps.specs.Fit.{Fit, Does}
 use Rattle.place.specs.Places.{perLadder}
-use Rattle.steps.proofs.Fit.{limit-of, does-kit}
-use Rattle.steps.proofs.Grown.{Grown, fit-grown, again-grown, again-once}
+use Rattle.steps.proofs.Fit.{does-kit}
+use Rattle.steps.proofs.Grown.{Grown, grown-none, grown-on, grown-to, grown-counted, fit-grown, again-grown, again-once}
 
 -- after i rises from p: each charges one composition for its window, and one of them may have built the left ladder
 pub record AfterRises (p q : Place) (i : ℕ) : Type 0 where
-  pub grown : Grown p q i (p .settings .limit + i) i
+  pub grown : Grown p q 0 i (p .window .taken .0 + i) i
   pub near : p .window .start .0 ≤ p .window .boundary .0 + 1 → q .window .start .0 ≤ q .window .boundary .0 + 1
   pub early : q .window .boundary .0 < q .window .taken .0 → q .counts .compositions .0 ≤ p .counts .compositions .0 + i
 
 pub along-none : (p : Place) → AfterRises p p 0
 along-none p = record {
-  grown = record {
-    settings = refl;
-    taken = refl;
-    start = omega arith;
-    bound = λ x. x;
-    comps = omega arith;
-    tests = omega arith;
-  };
+  grown = grown-to (grown-none p) refl refl (omega arith) (omega arith);
   near = λ x. x;
   early = λ x. omega arith;
 }
 
 -- one rise more, while s is below m
-pub along-more : {p q : Place} {i : ℕ} (K : Kit) (a : List ℕ) → p .window .taken .0 ≤ p .settings .limit
-    → p .window .start .0 + i < p .window .taken .0 → AfterRises p q i → AfterRises p (again K (state q a) .place) (i + 1)
-along-more {p} {q} {i} K a top low h =
+pub along-more : {p q : Place} {i : ℕ} (K : Kit) (a : List ℕ) → p .window .start .0 + i < p .window .taken .0 → AfterRises p q i
+    → AfterRises p (again K (state q a) .place) (i + 1)
+along-more {p} {q} {i} K a low h =
     let g = h .grown in
     let gm = g .taken in
-    let gl = limit-of (g .settings) in
     let gs = g .start in
     let gc = g .comps in
-    let gt = g .tests in
-    let n = again-grown K (state q a) (omega arith) in
-    let ns = n .start in
-    let nt = n .tests in
+    let n = again-grown K (state q a) in
     let nc = n .comps in
     let o = again-once K (state q a) (omega arith) in
+    let c : again K (state q a) .place .counts .compositions .0 ≤ p .counts .compositions .0 + (p .window .taken .0 + (i + 1)) =
+    ⊎-elim (λ (f : q .window .taken .0 ≤ q .window .boundary .0). let z = o .full f in omega arith)
+    (λ (f : q .window .boundary .0 < q .window .taken .0). let z = h .early f in omega arith)
+    (le-or-lt (q .window .taken .0) (q .window .boundary .0)) in
     record {
-      grown = record {
-        settings = n .settings ∙ g .settings;
-        taken = n .taken ∙ g .taken;
-        start = omega arith;
-        bound = λ x. let y = g .bound x in let w = n .bound (omega arith) in omega arith;
-        comps = ⊎-elim (λ (f : q .window .taken .0 ≤ q .window .boundary .0). let z = o .full f in omega arith)
-            (λ (f : q .window .boundary .0 < q .window .taken .0). let z = h .early f in omega arith)
-            (le-or-lt (q .window .taken .0) (q .window .boundary .0));
-        tests = omega arith;
-      };
+      grown = grown-counted (grown-on g n) c;
       near = λ x. o .near;
       early = λ y. let z = o .early y in let zc = z .1 in let w = h .early (z .0) in omega arith;
     }
@@ -70,12 +54,12 @@ along-more {p} {q} {i} K a top low h =
 abbrev Risen : Place → ℕ → Place → Type 0
 Risen p most q = (j : ℕ) × ((j ≤ most) × AfterRises p q j)
 
-pub climb-along : (K : Kit) (k i : ℕ) (p : Place) (st : State) → p .window .taken .0 ≤ p .settings .limit
+pub climb-along : (K : Kit) (k i : ℕ) (p : Place) (st : State)
     → p .window .start .0 + (i + k) ≡ p .window .taken .0 → AfterRises p (st .place) i → Risen p (i + k) (climb K k st .place)
 unfolding climb
-climb-along K zero i p st top row h = (i, (omega arith, h))
-climb-along K (suc k) i p st top row h =
-    let r = climb-along K k (i + 1) p (again K st) top (omega arith) (along-more K (st .area) top (omega arith) h) in
+climb-along K zero i p st row h = (i, (omega arith, h))
+climb-along K (suc k) i p st row h =
+    let r = climb-along K k (i + 1) p (again K st) (omega arith) (along-more K (st .area) (omega arith) h) in
     let low = r .1 .0 in
     go (st .place .marks .passed) (r .0, (omega arith, r .1 .1))
   where
@@ -84,12 +68,11 @@ climb-along K (suc k) i p st top row h =
     go false r = r
 
 pub climbed-along : (K : Kit) (st : State) → st .place .window .start .0 ≤ st .place .window .taken .0
-    → st .place .window .taken .0 ≤ st .place .settings .limit
     → Risen (st .place) (st .place .window .taken .0 - st .place .window .start .0) (climbed K st .place)
 unfolding climbed
-climbed-along K st low top =
+climbed-along K st low =
     let k = st .place .window .taken .0 - st .place .window .start .0 in
-    let r = climb-along K k 0 (st .place) st top (omega arith) (along-none (st .place)) in
+    let r = climb-along K k 0 (st .place) st (omega arith) (along-none (st .place)) in
     let rl = r .1 .0 in
     (r .0, (omega arith, r .1 .1))
 
@@ -158,8 +141,7 @@ climb-turn {p₀} {p} {q} {a₀} {a} {b} {k₀} {k} c h e d l =
     let d′ : Does (again (kitOf (p₀ .settings))) p a q b = does-kit again p p₀ (g .settings) d in
     let e₁ : again (kitOf (p₀ .settings)) (state p a) ≡ state q b = ap₂ state (sym (d′ .0)) (sym (d′ .1)) in
     let n : k₀ - k + 1 ≡ k₀ - (k - 1) = omega arith in
-    let m : AfterRises p₀ (again (kitOf (p₀ .settings)) (state p a) .place) (k₀ - k + 1) = along-more (kitOf (p₀ .settings)) a (f .top) (omega arith)
-    (c .along) in
+    let m : AfterRises p₀ (again (kitOf (p₀ .settings)) (state p a) .place) (k₀ - k + 1) = along-more (kitOf (p₀ .settings)) a (omega arith) (c .along) in
     record {
       fit₀ = f;
       long = l ∙ c .long;

@@ -1,5 +1,5 @@
--- `joins::pass_over` meets its contract. The invariant is `Made`; word u is read before it is written (`made-read`). A row of zero returns at once (`no-column`).
--- Assumes nothing.
+-- `joins::pass_over` meets its contract. The invariant is `Made`; word u is read before it is written (`made-read`). A row of zero returns at
+-- once (`no-column`). Assumes nothing.
 use Prim.Native.Nat.{_-_}
 use Rattle.model.specs.Recording.{bit, link}
 use Rattle.lists.proofs.Tab.{Made, made-start, made-turn, made-read, made-all}

@@ -1,6 +1,7 @@
 -- `steps::again` meets its contract: the rise and the test make the step.
 -- Assumes nothing.
-use Rattle.steps.proofs.Grown.{raise-tries, raised-lends}
+use Rattle.steps.specs.Walk.{raised}
+use Rattle.steps.proofs.Grown.{raise-tries, raised-grown, grown-lends}
 use native.Mathlib.Omega.{arith}
 use Rattle.steps.proofs.Fit.{fit-less}
 use Rattle.steps.proofs.Closes.{again-closes}
@@ -17,7 +18,7 @@ try-window-requires c κs =
     let c11 = c6 .before .before .before .before .before in
     let h = c11 .pre in
     let r = raise-tries _ _ (h .0) (h .2) (c6 .raise .ensures) (c6 .raise .kept .1 .0) in
-    (r, raised-lends _ _ (h .0 .top) (c6 .raise .ensures) (c6 .raise .kept .1 .1 .0) (h .1))
+    (r, grown-lends (raised _) _ _ (c6 .raise .ensures) (raised-grown _ _) (c6 .raise .kept .1 .1 .0) (h .1))
 
 same-length : tie.Need-same-length
 same-length c = search needs
@@ -30,7 +31,7 @@ returns c =
     let c4 = c .before .before .before .before in
     let c11 = c4 .before .before .before .before .before .before .before in
     let c16 = c11 .before .before .before .before .before in
-    again-closes _ _ (c16 .pre .0 .top) (c11 .raise .ensures) (c4 .try-window .ensures)
+    again-closes _ _ (c11 .raise .ensures) (c4 .try-window .ensures)
 
 pub again-spec : {M : Type 1} → statement M
 again-spec =

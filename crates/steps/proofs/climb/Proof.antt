@@ -2,8 +2,9 @@
 -- Assumes nothing.
 use mathlib.Core.Path.{_≡_, refl, _∙_}
 use lib.ListN.{length}
+use Rattle.steps.specs.Walk.{again}
 use Rattle.steps.specs.Fit.{Lends}
-use Rattle.steps.proofs.Grown.{again-lends}
+use Rattle.steps.proofs.Grown.{again-grown, grown-lends}
 use Rattle.steps.proofs.Rises.{Climb, climb-start, climb-takes, climb-turn, climb-passed, climb-over}
 use borrow.Author.Needs.{needs}
 use Rattle.steps.proofs.climb.Statement.{statement}
@@ -53,7 +54,7 @@ loop-again c =
     let e = c4 .again .ensures in
     let k = c4 .again .kept in (
       climb-turn (v .0) (c8 .loop-test .taken) (c7 .if1 .left) e (k .1 .0),
-      again-lends _ _ (climb-takes (v .0) (c8 .loop-test .taken) .0 .top) e (k .1 .1 .0) (v .1),
+      grown-lends (again _) _ _ e (again-grown _ _) (k .1 .1 .0) (v .1),
       k .1 .1 .0 ∙ v .2,
     )
 

@@ -7,9 +7,9 @@ use native.Mathlib.Omega.{arith}
 use lib.Dec.{eqb}
 use borrow.Author.Tests.{eq-eqb, ne-eqb}
 use Rattle.place.proofs.Laws.{and-left, and-right}
-use Rattle.steps.specs.Walk.{ended, stepped, maxStep}
+use Rattle.steps.specs.Walk.{entered, tried, ended, stepped, maxStep}
 use Rattle.steps.proofs.Fit.{fit-less, able-long, one-le}
-use Rattle.steps.proofs.Grown.{enter-tries, entered-lends, try-climbs, tried-lends}
+use Rattle.steps.proofs.Grown.{enter-tries, try-climbs, entered-grown, tried-grown, grown-lends}
 use Rattle.steps.proofs.Closes.{takes-entry, moves-max, moves-min, finished-live, max-closes, min-closes, bare-closes, entered-spared, does-kept}
 use Rattle.steps.proofs.Closes.{kept-one}
 use borrow.Author.Needs.{needs}
@@ -55,11 +55,11 @@ judge-ladders-requires c κs =
     let s = c11 .before .before .before .before .before .before in
     let h = takes-entry (s .args .p) (c11 .moved-by .ensures) (s .pre .0) in
     let r = enter-tries (s .args .p) (s .args .area .now) (c11 .moved-by .result) (s .args .words .now) h (c8 .enter .ensures) (c8 .enter .kept .1 .0) in
-    let l = entered-lends (s .args .p) (s .args .area .now) (c11 .moved-by .result) (s .args .words .now) h (c8 .enter .ensures)
+    let l = grown-lends (entered _ _ _) (s .args .p) (s .args .area .now) (c8 .enter .ensures) (entered-grown _ _ _ _)
     (c8 .enter .kept .1 .1 .1 .0) (s .pre .1) in (
       fit-less 1 (omega arith) r,
       l,
-      entered-spared (s .args .p) (s .args .area .now) _ (s .pre .0 .passed .top) _ (s .args .kept) (c8 .enter .ensures)
+      entered-spared (s .args .p) (s .args .area .now) _ _ (s .args .kept) (c8 .enter .ensures)
           (sym (c3 .is-spared .ensures) ∙ c .before .before .if2 .taken),
     )
 
@@ -83,7 +83,7 @@ returns-2 c =
     let c13 = c8 .before .before .before .before .before in
     let c16 = c13 .before .before .before in
     let s = c16 .before .before .before .before .before .before in
-    bare-closes (s .args .p) _ _ (s .pre .0 .passed .top) (s .args .kept) (sym (c8 .is-spared .ensures) ∙ c7 .if2 .taken) (c16 .moved-by .ensures)
+    bare-closes (s .args .p) _ _ (s .args .kept) (sym (c8 .is-spared .ensures) ∙ c7 .if2 .taken) (c16 .moved-by .ensures)
     (c13 .enter .ensures) (c4 .judge-ladders .ensures)
 
 try-window-requires : tie.Need-try-window-requires
@@ -93,7 +93,7 @@ try-window-requires c κs =
     let s = c11 .before .before .before .before .before .before in
     let h = takes-entry (s .args .p) (c11 .moved-by .ensures) (s .pre .0) in
     let r = enter-tries (s .args .p) (s .args .area .now) (c11 .moved-by .result) (s .args .words .now) h (c8 .enter .ensures) (c8 .enter .kept .1 .0) in
-    let l = entered-lends (s .args .p) (s .args .area .now) (c11 .moved-by .result) (s .args .words .now) h (c8 .enter .ensures)
+    let l = grown-lends (entered _ _ _) (s .args .p) (s .args .area .now) (c8 .enter .ensures) (entered-grown _ _ _ _)
     (c8 .enter .kept .1 .1 .1 .0) (s .pre .1) in
     (fit-less 1 (omega arith) r, l)
 
@@ -105,10 +105,10 @@ climb-requires c κs =
     let s = c20 .before .before .before .before .before .before in
     let h = takes-entry (s .args .p) (c20 .moved-by .ensures) (s .pre .0) in
     let r = enter-tries (s .args .p) (s .args .area .now) (c20 .moved-by .result) (s .args .words .now) h (c17 .enter .ensures) (c17 .enter .kept .1 .0) in
-    let l = entered-lends (s .args .p) (s .args .area .now) (c20 .moved-by .result) (s .args .words .now) h (c17 .enter .ensures)
+    let l = grown-lends (entered _ _ _) (s .args .p) (s .args .area .now) (c17 .enter .ensures) (entered-grown _ _ _ _)
     (c17 .enter .kept .1 .1 .1 .0) (s .pre .1) in
     let t = try-climbs _ _ r (c8 .try-window .ensures) (c8 .try-window .kept .1 .0) in
-    (t, tried-lends _ _ (c8 .try-window .ensures) (c8 .try-window .kept .1 .1 .0) l)
+    (t, grown-lends (tried _) _ _ (c8 .try-window .ensures) (tried-grown _ _) (c8 .try-window .kept .1 .1 .0) l)
 
 clear-spare-requires : tie.Need-clear-spare-requires
 clear-spare-requires c κs =
@@ -147,7 +147,7 @@ returns-3 c =
     let t = s .pre .0 in
     let e = eq-eqb _ _ one in
     does-kept (s .args .p) _ _ (s .args .kept) (kept-one (s .args .p .settings) (s .args .kept) e)
-    (simp e (max-closes (s .args .p) _ _ (t .failed .top) (t .failed .ahead)
+    (simp e (max-closes (s .args .p) _ _ (t .failed .ahead)
     (finished-live (s .args .p) one (sym (c31 .is-finished .ensures) ∙ c30 .if1 .left))
     (moves-max (s .args .p) one (c29 .moved-by .ensures)) (c26 .enter .ensures) (c17 .try-window .ensures) (c8 .climb .ensures)
     (c .before .before .clear-spare .ensures)))
@@ -183,7 +183,7 @@ returns-4 c =
     let s = c22 .before .before .before .before .before .before in
     let other = c4 .if3 .left in
     does-kept (s .args .p) _ _ (s .args .kept) (sym (c14 .is-spared .ensures) ∙ c13 .if2 .left)
-    (simp (ne-eqb _ _ other) (min-closes (s .args .p) _ _ (s .pre .0 .passed .top) (moves-min (s .args .p) other (c22 .moved-by .ensures))
+    (simp (ne-eqb _ _ other) (min-closes (s .args .p) _ _ (moves-min (s .args .p) other (c22 .moved-by .ensures))
     (c19 .enter .ensures) (c10 .try-window .ensures) (c .before .before .clear-spare2 .ensures)))
 
 pub step-spec : {M : Type 1} → statement M
