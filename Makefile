@@ -1,5 +1,5 @@
-# The C side: the archive with its header, the examples, and the tests of the boundary. The gate is .ci/run alone; nothing here is part of it.
-# Everything is written to target/, which the gate removes.
+# The C side: the archive with its header, the examples, and the tests of the boundary; and `make check`, what the gate does not look at. The gate
+# is .ci/run alone; nothing here is part of it. Everything is written to target/, which the gate removes.
 RT = rt
 CC = gcc
 CXX = g++
@@ -10,7 +10,14 @@ LIB = $(OUT)/libnookmallow.a
 # The part of the rounds that valgrind runs: one in so many.
 SHARE = 40
 
-.PHONY: lib examples check-abi bench
+.PHONY: check lib examples check-abi bench
+
+# After a run of the gate: docs/CLAIMS.md and README.md are true of the tree, each must-fail edit was refused on a fact, and the boundary is as the
+# header says.
+check:
+	tools/claims
+	tools/must_fail_reasons
+	$(MAKE) check-abi
 
 lib:
 	$(RT) staticlib nookmallow
@@ -23,12 +30,19 @@ examples: lib
 	$(CXX) -O2 $(WARN) -Werror -x c++ -I$(OUT) examples/controller.c -x none $(LIB) -o target/examples/controller_cpp
 	$(RUSTC) -O --edition 2021 examples/controller.rs -L $(OUT) -o target/examples/controller_rs
 
-# The archive needs nothing of its host but memcpy and its like, and has no data of its own that could change. Then every call against its
-# prediction, from C, from Rust and under valgrind; the tables of both languages; and the examples, which have to print the same.
+# The archive needs nothing of its host but the functions that the header names, and all of these; it has no data of its own that could change. The
+# header's example is built and run. Then every call against its prediction, from C, from Rust and under valgrind; the tables of both languages; and
+# the examples, which have to print the same.
 check-abi: examples
 	! nm $(LIB) | grep -E ' [BbCDdGgSs] '
-	! nm -u $(LIB) | grep ' U ' | grep -v -E ' U mem(cmp|cpy|move|set)$$'
 	mkdir -p target/abi
+	nm -u $(LIB) | sed -n 's/^ *U //p' | sort -u > target/abi/needed
+	sed -n '/needs nothing but/,/\./p' include/nookmallow.h | grep -o 'mem[a-z]*' | sort -u > target/abi/named
+	cmp target/abi/needed target/abi/named
+	sed -n '/---- An example/,/---- The words/s/^ \*     //p' include/nookmallow.h > target/abi/example.c
+	$(CC) -O2 $(WARN) -Werror -std=c99 -I$(OUT) target/abi/example.c $(LIB) -o target/abi/example
+	target/abi/example > target/abi/example.txt
+	test "$$(grep -c 'length 2, refusal 0' target/abi/example.txt)" = 3
 	$(CC) -O2 -g $(WARN) -std=c99 -pthread -I$(OUT) abi/*.c $(LIB) -o target/abi/test
 	$(RUSTC) -O --edition 2021 abi/test.rs -L $(OUT) -o target/abi/test_rs
 	target/abi/test

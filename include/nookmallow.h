@@ -4,10 +4,33 @@
  * Up to 32 boards talk by one-way light links, and each pick of the loom has its own set of open links. From the links,
  * recorded pick by pick, this part works out four lengths from which a controller sets its waits. It answers every
  * input: with the figures asked for, or with one of the 16 refusals below. It keeps nothing between calls, allocates
- * nothing, never stops the program, and needs nothing but memcpy and memset of your C library.
+ * nothing, never stops the program, and needs nothing but memcpy, memmove and memset of your C library.
  *
  * Link with libnookmallow.a (x86-64 Linux calling convention). No call may be made with a struct, a pointer or a count
  * other than declared here: nothing checks that at run time.
+ *
+ * ---- An example: the reach length after each of four picks over two boards
+ *
+ *     #include "nookmallow.h"
+ *     #include <stdio.h>
+ *
+ *     int main(void) {
+ *         static const uint32_t picks[4][2] = {{2, 0}, {0, 1}, {2, 0}, {0, 1}};
+ *         static uint32_t area[NOOKMALLOW_AREA_WORDS(2, NOOKMALLOW_REACH, 4)];
+ *         size_t size = sizeof area / sizeof area[0], i;
+ *         nookmallow_handed h = nookmallow_open(2, NOOKMALLOW_REACH, 4, NULL, 0, area, size);
+ *         for (i = 0; h.refusal == NOOKMALLOW_OK && i < 4; i++) {
+ *             h = nookmallow_pick(h.place, area, size, picks[i], 2);
+ *             if (h.refusal == NOOKMALLOW_OK) {
+ *                 nookmallow_measured r = nookmallow_length(h.place);
+ *                 printf("pick %u: length %u, refusal %u\n", (unsigned)(i + 1), (unsigned)r.length, (unsigned)r.refusal);
+ *             }
+ *         }
+ *         return (int)h.refusal;
+ *     }
+ *
+ * It prints length 0 with refusal 9 after pick 1 (set no wait), and length 2 with refusal 0 after each of the others
+ * (wait 2 picks or more).
  *
  * ---- The words of a pick
  *
@@ -35,15 +58,45 @@
  * p + k - 1 is done: every link of the list has been open (2), what any board sent at p is at every other (3), and its
  * answer has come back (4). So under measures 2 to 4 wait k picks OR MORE; k - 1 is too short somewhere in what was
  * recorded. Under measure 1 count on a lasting set of links for k picks OR FEWER. A length speaks of the picks taken,
- * and of no others:
- *   - ask again after each pick. Under measures 2 to 4 a later pick can make the length longer, never shorter. Under
- *     measure 1 it grows while it equals m; from then on it stays or gets shorter.
- *   - a refused pick is not among the picks taken. If the loom goes on all the same, the length is not that of what was
- *     woven: after a refused pick, also 7, set no wait from it before you have put the pick right or opened anew.
- *   - where a design is repeated, a window from its end into its beginning is a window only if you hand over those
- *     picks too.
- *   - refusal 9 is no length, and length is then 0: set no wait from it. Under measures 2 to 4 it may end with a later
- *     pick, under measure 1 it stays.
+ * and of no others, so ask again after each pick: under measures 2 to 4 a later pick can make it longer, never shorter;
+ * under measure 1 it can become longer, by one pick, only while it equals m, and once it is below m it never does.
+ *
+ * ---- A design that is repeated
+ *
+ * A window from the end of a design into its next round is a window only if you hand over those picks too, and handing
+ * the design over twice can still give a wait that is too short. With m picks handed over of a design of d picks, round
+ * after round from its first pick on: under measures 2 to 4 a length k that is AT MOST m - d + 1 is the length of every
+ * longer number of picks of the repetition, so a wait set from it holds however often the design is repeated. (This is
+ * proved.) Where k is greater, hand over more rounds before you set a wait: three rounds will do for a k of up to
+ * 2 * d + 1, two for a k of up to d + 1, one for a k of 1. Under measure 2 the list has the links of the design.
+ *
+ * ---- After a refusal
+ *
+ * A refused pick is not among the picks taken. If the loom goes on all the same, the length is not that of what was
+ * woven: set no wait from it before you have done what follows.
+ *   4, 5, 10   nothing has changed: put the cause right and hand the pick over again.
+ *   6          the list has not all links. Open anew with a list that has this link too, and hand over all picks again
+ *              from pick 1, so keep the picks where the list is not certain.
+ *   7          the limit is reached. Below 4096 open anew with a greater limit and hand over all picks again. At 4096
+ *              open anew and hand over the last R picks of those taken once more, then the one that was refused, and go
+ *              on. Under measures 2 to 4 let k be the greater of the last length before and the length now: where k is
+ *              AT MOST R + 1, it is the length of all picks together. (This is proved.) After the next 4096 go on in
+ *              the same way, the last length before being the k of all picks till then. Where k is greater, or one of
+ *              the two is refused with 9, the length of all picks together is not known: open anew with a greater R.
+ *              So keep the last R picks, R some times your longest wait.
+ *   8, 9       no length, and `length` is 0: set no wait from it. Under measures 2 to 4 it may end with a later pick;
+ *              under measure 1 a 9 stays, whatever comes, until you open anew.
+ *   16         the place was altered or never opened: open anew, and hand over all picks again or the last R as under 7.
+ *
+ * ---- What a pick costs
+ *
+ * The work is counted in compositions (of two windows) and tests (of one). The totals for m picks are at most
+ * 4 * (m - 1) and 2 * m, but they are not spread evenly, so a controller that budgets by pick must allow more: pick m
+ * alone can make m - 1 compositions, where it builds the windows of its area anew, and under measure 1 up to m tests;
+ * under measures 2 to 4 it makes one test. (This is proved too.) One composition or test takes at most some n steps
+ * under measures 1 and 2, n * n under 3 and n * n * n under 4. The smaller the limit, the smaller the greatest pick:
+ * where 4095 compositions in one pick are too many, open with a smaller limit and go on as under 7. Opening writes all
+ * words that the area needs.
  *
  * ---- Place and area: stopping and starting at any pick
  *
@@ -54,7 +107,9 @@
  * also in another machine of the same byte order. Never hand in a place or an area that another version stored:
  * compare the stored number with nookmallow_version() and, where they differ, open anew and take the picks from pick 1.
  * A place with the area of another pick, of another opening or with altered words is answered too, but its lengths mean
- * nothing; refusal 16 finds only places that no walk can come to.
+ * nothing. nookmallow_length on what was brought back tells a damaged place (16), before a pick is taken: it finds
+ * numbers out of range or that contradict each other, which no walk can come to. It cannot tell a place that some other
+ * walk comes to, and never an altered area, which it does not look at; keep a checksum over both if your store can fail.
  *
  * ---- Pointers
  *
@@ -113,12 +168,12 @@ enum nookmallow_refusal {
     NOOKMALLOW_ROOM = 4,       /* the area or the output is shorter than needed */
     NOOKMALLOW_FORBIDDEN = 5,  /* a pick or the list has a link from a board to itself, or a bit n or above */
     NOOKMALLOW_UNLISTED = 6,   /* measure 2, pick by pick: the pick has a link that the list of the opening has not */
-    NOOKMALLOW_FULL = 7,       /* one pick more than the limit; to go on, open anew with a greater limit */
+    NOOKMALLOW_FULL = 7,       /* one pick more than the limit; how to go on stands above */
     NOOKMALLOW_NO_PICK = 8,    /* no pick yet, so no length */
     NOOKMALLOW_NO_LENGTH = 9,  /* no length exists: all picks together fail (2 to 4), or some single pick does (1) */
     NOOKMALLOW_SHAPE = 10,     /* the number of words is not n (a pick, the list), or not a multiple of n (whole) */
     NOOKMALLOW_COMMAND = 11,   /* file: an unknown command, the first is not 42, or 42 again */
-    NOOKMALLOW_STOPPED = 12,   /* file: it stops before 45 or inside operands */
+    NOOKMALLOW_STOPPED = 12,   /* file: it stops before 45 or inside operands; an empty file too */
     NOOKMALLOW_OPERANDS = 13,  /* file: the two boards of a link are equal, or one is n or above */
     NOOKMALLOW_UNCHANGED = 14, /* file: opens a link that is open, or shuts one that is shut */
     NOOKMALLOW_TRAILING = 15,  /* file: bytes after 45 */
@@ -147,7 +202,7 @@ typedef struct nookmallow_handed {
     nookmallow_place place;
 } nookmallow_handed;
 
-/* The counts are the work done: for m picks at most 4 * (m - 1) compositions and 2 * m tests. */
+/* The counts are the work done so far: for m picks at most 4 * (m - 1) compositions and 2 * m tests in all. */
 typedef struct nookmallow_answer {
     uint32_t refusal;
     uint32_t length; /* 0 where refused */
