@@ -6,8 +6,8 @@
  * input: with the figures asked for, or with one of the 16 refusals below. It keeps nothing between calls, allocates
  * nothing, never stops the program, and needs nothing but memcpy, memmove and memset of your C library.
  *
- * Link with libnookmallow.a (x86-64 Linux calling convention). No call may be made with a struct, a pointer or a count
- * other than declared here: nothing checks that at run time.
+ * Link with libnookmallow.a (x86-64 Linux calling convention). Keep to the declarations below: nothing checks at run
+ * time that a pointer is valid and a count true.
  *
  * ---- An example: the reach length after each of four picks over two boards
  *
@@ -47,12 +47,14 @@
  *   1 common      the LARGEST k such that in every window of k the links open at all of its picks lead from every board
  *                 to every other (interval connectivity).
  *   2 footprint   the SMALLEST k such that in every window of k each link of the list is open at some pick, and no
- *                 other link is (footprint realization).
+ *                 other link is (footprint realization). The list is handed over at the opening; of a whole run it is
+ *                 all links that are open at any of its picks.
  *   3 reach       the SMALLEST k such that in every window of k each board gets a message to each other board, over
  *                 open links in the order of the picks, many links in one pick if need be (temporal diameter).
- *   4 round trip  the SMALLEST k such that in every window of k, for every two boards u and v, the earliest message
- *                 from u is at v at or before the latest pick at which v can still send one that gets to u; v may
- *                 answer in the pick in which it heard (round-trip temporal diameter).
+ *   4 round trip  the SMALLEST k such that in every window of k, for every board u and every other board v, the
+ *                 earliest message from u is at v at or before the latest pick at which v can still send one that gets
+ *                 to u (round-trip temporal diameter). So v answers in the very pick in which it hears; where a board
+ *                 needs longer to answer, this length is too short.
  *
  * Setting a wait. The pick at which you start counts as the first of the k. Whatever pick p you start at, once pick
  * p + k - 1 is done: every link of the list has been open (2), what any board sent at p is at every other (3), and its
@@ -64,39 +66,55 @@
  * ---- A design that is repeated
  *
  * A window from the end of a design into its next round is a window only if you hand over those picks too, and handing
- * the design over twice can still give a wait that is too short. With m picks handed over of a design of d picks, round
- * after round from its first pick on: under measures 2 to 4 a length k that is AT MOST m - d + 1 is the length of every
- * longer number of picks of the repetition, so a wait set from it holds however often the design is repeated. (This is
- * proved.) Where k is greater, hand over more rounds before you set a wait: three rounds will do for a k of up to
- * 2 * d + 1, two for a k of up to d + 1, one for a k of 1. Under measure 2 the list has the links of the design.
+ * the design over twice can still give a wait that is too short. Hand over m picks of the repetition of a design of d
+ * picks, round after round from its first pick on, m at least d:
+ *   - under measures 2 to 4 a length k that is AT MOST m - d + 1 is the length of every greater number of picks of the
+ *     repetition, so a wait set from it holds however often the design is repeated. Where k is greater, or there is
+ *     none (9), hand over more rounds before you set a wait: two will do for a k of up to d + 1, three for a k of up to
+ *     2 * d + 1. Under measure 2 the list has the links of the design.
+ *   - under measure 1 count on the smaller of k and m - d + 1 picks: every window of so many passes, however often the
+ *     design is repeated.
+ * Both are proved.
  *
  * ---- After a refusal
  *
  * A refused pick is not among the picks taken. If the loom goes on all the same, the length is not that of what was
  * woven: set no wait from it before you have done what follows.
+ *   1, 2, 3    the setup is wrong.
  *   4, 5, 10   nothing has changed: put the cause right and hand the pick over again.
- *   6          the list has not all links. Open anew with a list that has this link too, and hand over all picks again
- *              from pick 1, so keep the picks where the list is not certain.
- *   7          the limit is reached. Below 4096 open anew with a greater limit and hand over all picks again. At 4096
- *              open anew and hand over the last R picks of those taken once more, then the one that was refused, and go
- *              on. Under measures 2 to 4 let k be the greater of the last length before and the length now: where k is
- *              AT MOST R + 1, it is the length of all picks together. (This is proved.) After the next 4096 go on in
- *              the same way, the last length before being the k of all picks till then. Where k is greater, or one of
- *              the two is refused with 9, the length of all picks together is not known: open anew with a greater R.
- *              So keep the last R picks, R some times your longest wait.
+ *   6          the list lacks a link. Open anew with a list that has it, and hand over all picks again from pick 1. So
+ *              keep the picks where the list is not certain; without them no length of all picks can be had.
+ *   7          the limit is reached. See the next paragraph.
  *   8, 9       no length, and `length` is 0: set no wait from it. Under measures 2 to 4 it may end with a later pick;
- *              under measure 1 a 9 stays, whatever comes, until you open anew.
- *   16         the place was altered or never opened: open anew, and hand over all picks again or the last R as under 7.
+ *              under measure 1 a 9 stays, whatever comes.
+ *   11 to 15   the file is wrong where the number says; nothing was read.
+ *   16         the place was altered or never opened. Open anew, and hand over all picks again; or the last R of them as
+ *              in the next paragraph, with the last length that you know.
+ *
+ * ---- Going on past the limit
+ *
+ * Below 4096 you may open anew with a greater limit and hand over all picks again. Or, at any limit: open anew, hand
+ * over the last R picks of those taken once more (R below the limit), then the refused pick, and go on. When this
+ * opening is full too, do so again, with the same R. Keep the last R picks, and the last length of each full opening.
+ * While none of them was a 9:
+ *   - under measures 2 to 4 let k be the greatest of those lengths and of the length now. Where k is AT MOST R + 1, it
+ *     is the length of all picks together. Once it is greater, the length of all picks together is not known and may be
+ *     greater than k, and no later opening mends that: set no wait from k. So choose an R well above your longest wait.
+ *   - under measure 1 count on the smallest of those lengths, of the length now and of R + 1: every window of so many
+ *     of all picks passes.
+ * Both are proved. Handing over R picks in the time of one costs up to 4 * R compositions and 2 * R tests, and opening
+ * writes all words that the area needs. Where that is too much for one pick, open the next walk, in an area of its own,
+ * R picks before the limit, and hand each pick to both.
  *
  * ---- What a pick costs
  *
  * The work is counted in compositions (of two windows) and tests (of one). The totals for m picks are at most
  * 4 * (m - 1) and 2 * m, but they are not spread evenly, so a controller that budgets by pick must allow more: pick m
- * alone can make m - 1 compositions, where it builds the windows of its area anew, and under measure 1 up to m tests;
- * under measures 2 to 4 it makes one test. (This is proved too.) One composition or test takes at most some n steps
- * under measures 1 and 2, n * n under 3 and n * n * n under 4. The smaller the limit, the smaller the greatest pick:
- * where 4095 compositions in one pick are too many, open with a smaller limit and go on as under 7. Opening writes all
- * words that the area needs.
+ * alone can make up to m - 1 compositions, where it builds the windows of its area anew, and under measure 1 up to m
+ * tests; under measures 2 to 4 it makes one test. (This is proved.) A composition takes at most some n steps under
+ * measures 1 and 2, n * n under 3 and n * n * n under 4; a test n under 2 and 3, n * n under 1 and 4. What a pick costs
+ * besides does not grow with m. The smaller the limit, the smaller the greatest pick: where 4095 compositions in one
+ * pick are too many, open with a smaller limit and go on past it as above.
  *
  * ---- Place and area: stopping and starting at any pick
  *
@@ -107,9 +125,9 @@
  * also in another machine of the same byte order. Never hand in a place or an area that another version stored:
  * compare the stored number with nookmallow_version() and, where they differ, open anew and take the picks from pick 1.
  * A place with the area of another pick, of another opening or with altered words is answered too, but its lengths mean
- * nothing. nookmallow_length on what was brought back tells a damaged place (16), before a pick is taken: it finds
- * numbers out of range or that contradict each other, which no walk can come to. It cannot tell a place that some other
- * walk comes to, and never an altered area, which it does not look at; keep a checksum over both if your store can fail.
+ * nothing. nookmallow_length, which changes nothing, tells some damaged places (16): those with a number out of range or
+ * with numbers that contradict each other. Many altered places pass, and it never looks at the area, so keep a checksum
+ * over place and area. Past the limit store R, the last R picks and the lengths of the full openings too.
  *
  * ---- Pointers
  *
@@ -152,7 +170,7 @@ extern "C" {
 
 /*
  * A thread that calls needs this much stack to spare. Measured, not proved: nookmallow_pick takes the most, some 14 KiB
- * under measure 4 and 11 KiB under the others.
+ * under measure 4 and up to 13 KiB under the others.
  */
 #define NOOKMALLOW_STACK_BYTES 24576u
 
@@ -164,14 +182,14 @@ enum nookmallow_refusal {
     NOOKMALLOW_OK = 0,         /* none: the answer is good */
     NOOKMALLOW_BOARDS = 1,     /* n is not 2 to 32 */
     NOOKMALLOW_MEASURE = 2,    /* the measure is not 1 to 4 */
-    NOOKMALLOW_PICKS = 3,      /* the limit, or the number of picks lent whole, is not 1 to 4096 */
+    NOOKMALLOW_PICKS = 3,      /* the limit, or the number of picks lent whole, is not 1 to 4096; no pick lent whole is 8 */
     NOOKMALLOW_ROOM = 4,       /* the area or the output is shorter than needed */
     NOOKMALLOW_FORBIDDEN = 5,  /* a pick or the list has a link from a board to itself, or a bit n or above */
     NOOKMALLOW_UNLISTED = 6,   /* measure 2, pick by pick: the pick has a link that the list of the opening has not */
     NOOKMALLOW_FULL = 7,       /* one pick more than the limit; how to go on stands above */
     NOOKMALLOW_NO_PICK = 8,    /* no pick yet, so no length */
     NOOKMALLOW_NO_LENGTH = 9,  /* no length exists: all picks together fail (2 to 4), or some single pick does (1) */
-    NOOKMALLOW_SHAPE = 10,     /* the number of words is not n (a pick, the list), or not a multiple of n (whole) */
+    NOOKMALLOW_SHAPE = 10,     /* the number of words is not n (a pick, the list), or not a multiple of n (whole, table) */
     NOOKMALLOW_COMMAND = 11,   /* file: an unknown command, the first is not 42, or 42 again */
     NOOKMALLOW_STOPPED = 12,   /* file: it stops before 45 or inside operands; an empty file too */
     NOOKMALLOW_OPERANDS = 13,  /* file: the two boards of a link are equal, or one is n or above */
