@@ -4,3 +4,4 @@ pub mod Condition2
 pub mod Condition3
 pub mod Cases
 pub mod Area
+pub mod Longer

@@ -36,8 +36,13 @@
 --   3, the ten cases: Cases.CasesAnswered, CasesAnywhere, CasesRight
 --   4, facts shared by the measures with the composition as a parameter: `law/specs/Faithful`, `Ladders`, `Invariants`, over any kit
 --   5, condition 3 is there: Condition3.Condition3
+--
+-- MORE PICKS THAN WERE HANDED OVER
+--   a design that is repeated, of which enough picks were handed over: Longer.RepeatedDesign; in whole runs: RepeatedRuns
+--   going on past the limit, by opening anew and handing over the last picks again: Longer.GoingOn; walk after walk: GoingOnAndOn
 pub mod Condition1
 pub mod Condition2
 pub mod Condition3
 pub mod Cases
 pub mod Area
+pub mod Longer

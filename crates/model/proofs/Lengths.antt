@@ -1,10 +1,11 @@
--- When a length exists. Assumes nothing.
+-- When a length exists, and when it is the length of more picks. Assumes nothing.
 use mathlib.Core.Path.{_≡_, subst}
 use mathlib.Core.Logic.{_≢_, _⊎_, inl, inr, ⊎-elim, _↔_}
-use Prim.Native.Nat.{ℕ, zero, suc, _+_, _-_, _≤_, _<_}
+use Prim.Native.Nat.{ℕ, zero, suc, max, _+_, _-_, _≤_, _<_}
+use native.Mathlib.Nat.{le-refl}
 use native.Mathlib.Omega.{arith}
 use Rattle.model.specs.Length.{Every, Smallest, Largest, NoLength, HasSmallest, Upward}
-use Rattle.model.proofs.Logic.{eq-or, dec-every}
+use Rattle.model.proofs.Logic.{eq-or, le-or-lt, dec-every}
 
 -- there is one smallest length, and one largest
 pub smallest-one : {P : ℕ → ℕ → Type 0} {m k l : ℕ} → Smallest P m k → Smallest P m l → k ≡ l
@@ -94,3 +95,43 @@ smallest-agree e s = record {
 
 pub none-agree : {P Q : ℕ → ℕ → Type 0} {m : ℕ} → Agree P Q m → NoLength P m → NoLength Q m
 none-agree e f k a b g = f k a b (every-agree (agree-back e) a g)
+
+pub upward-agree : {P Q : ℕ → ℕ → Type 0} {m : ℕ} → Agree P Q m → Upward P m → Upward Q m
+upward-agree e up i j a b p q r s t f = e a b p (omega arith) t .0 (up i j a b p q r s t (e i j (omega arith) r (omega arith) .1 f))
+
+-- ---- lengths of more picks
+
+-- the windows of the picks 1 to m under P are, x picks on, windows under Q
+abbrev pub Inside : (ℕ → ℕ → Type 0) → ℕ → (ℕ → ℕ → Type 0) → ℕ → Type 0
+Inside P m Q x = (i j h l : ℕ) → 1 ≤ i → i ≤ j → j ≤ m → h ≡ i + x → l ≡ j + x → P i j ↔ Q h l
+
+-- so where every window of k of all picks passes, every one of these does
+every-inside : {P Q : ℕ → ℕ → Type 0} {m all k : ℕ} (x : ℕ) → Inside P m Q x → m + x ≤ all → 1 ≤ k → Every Q all k → Every P m k
+every-inside x e h a f i j b c d =
+    e i j (i + x) (j + x) b (omega arith) c (omega arith) (omega arith) .1 (f (i + x) (j + x) (omega arith) (omega arith) (omega arith))
+
+-- THEOREM. A length of the first m picks is that of all, if every window of so many of all passes.
+pub smallest-all : {P Q : ℕ → ℕ → Type 0} {m all k : ℕ} → Inside P m Q 0 → m ≤ all → Smallest P m k → Every Q all k → Smallest Q all k
+smallest-all e h s f = record { low = s .low; high = omega arith; every = f; least = λ l a b g. s .least l a b (every-inside 0 e (omega arith) a g) }
+
+-- where windows of k pass, wider ones do
+every-wider : {P : ℕ → ℕ → Type 0} {m k : ℕ} (l : ℕ) → Upward P m → 1 ≤ k → k ≤ l → Every P m k → Every P m l
+every-wider {k = k} l up a b f i j c d e =
+    up i (i + k - 1) i j c (le-refl i) (omega arith) (omega arith) d (f i (i + k - 1) c (omega arith) (omega arith))
+
+-- THEOREM. All picks are the first m, under P, and those from x + 1 on, under Q. The greater of the two lengths is that of all, if so many picks in a row
+-- always lie in one of the two.
+pub smallest-both : {P Q R : ℕ → ℕ → Type 0} {m rest all k l : ℕ} (x : ℕ) → Inside P m R 0 → m ≤ all → Inside Q rest R x → rest + x ≡ all
+    → Upward P m → Upward Q rest → Smallest P m k → Smallest Q rest l → max k l + x ≤ m + 1 → Smallest R all (max k l)
+smallest-both {m = m} {k = k} {l = l} x e h f w up up-rest s t room =
+    let wide = every-wider (max k l) up (s .low) (omega arith) (s .every) in
+    let wide-rest = every-wider (max k l) up-rest (t .low) (omega arith) (t .every) in
+    record {
+      low = omega arith;
+      high = omega arith;
+      every = λ i j a b c. ⊎-elim (λ (g : j ≤ m). e i j i j a (omega arith) g (omega arith) (omega arith) .0 (wide i j a g c))
+          (λ (g : m < j). f (i - x) (j - x) i j (omega arith) (omega arith) (omega arith) (omega arith) (omega arith) .0
+          (wide-rest (i - x) (j - x) (omega arith) (omega arith) (omega arith))) (le-or-lt j m);
+      least = λ y a b g. ⊎-elim (λ (c : k ≤ y). t .least y a (omega arith) (every-inside x f (omega arith) a g))
+          (λ (c : y < k). s .least y a c (every-inside 0 e (omega arith) a g)) (le-or-lt k y);
+    }

@@ -8,5 +8,6 @@ pub mod Hops
 pub mod Windows
 pub mod Lengths
 pub mod Monotone
+pub mod Shifted
 pub mod Refusals
 pub mod Causes

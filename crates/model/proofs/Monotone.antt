@@ -8,22 +8,25 @@ use native.Mathlib.Omega.{arith}
 use mathlib.Core.List.{List}
 use lib.ListN.{length}
 use Rattle.model.specs.Journey.{Limit, Journey}
-use Rattle.model.specs.Measures.{Listed, Leads, here, along, PassesCommon, PassesFootprint, PassesReach, RoundTrip, PassesRoundTrip}
+use Rattle.model.specs.Measures.{Listed, Leads, here, along, PassesCommon, SomeLink, PassesFootprint, PassesReach, RoundTrip, PassesRoundTrip}
 use Rattle.model.specs.Length.{Upward, Downward}
 use Rattle.model.proofs.Logic.{first-of, last-of}
 use Rattle.model.proofs.Trips.{journey-wider}
 
-leads-map : {R S : ℕ → ℕ → Type 0} {u v : ℕ} → ((a b : ℕ) → R a b → S a b) → Leads R u v → Leads S u v
+pub leads-map : {R S : ℕ → ℕ → Type 0} {u v : ℕ} → ((a b : ℕ) → R a b → S a b) → Leads R u v → Leads S u v
 leads-map f here = here
 leads-map f (along {u = a} {w = b} x y) = along (f a b x) (leads-map f y)
 
 pub common-down : (r : List (List ℕ)) (n m : ℕ) → Downward (PassesCommon r n) m
 common-down r n m i j a b p q s t z f u v hu hv ne = leads-map (λ x y g k l m. g k (omega arith) (omega arith)) (f u v hu hv ne)
 
+pub some-wider : {i j a b : ℕ} (r : List (List ℕ)) (u v : ℕ) → a ≤ i → j ≤ b → SomeLink r i j u v → SomeLink r a b u v
+some-wider {i} {j} r u v x y g = let p : i ≤ g .0 = g .1 in let q : g .0 ≤ j = g .2 in (g .0, omega arith, omega arith, g .3)
+
 pub footprint-up : (r : List (List ℕ)) (footprint : List ℕ) → Listed r footprint → Upward (PassesFootprint r footprint) (length r)
 footprint-up r l k i j a b p q s t z f u v = (
   λ g. let x : a ≤ g .0 = g .1 in let y : g .0 ≤ b = g .2 in k (g .0) u v (omega arith) (omega arith) (g .3),
-  λ m. let g = f u v .1 m in let x : i ≤ g .0 = g .1 in let y : g .0 ≤ j = g .2 in (g .0, omega arith, omega arith, g .3),
+  λ m. some-wider r u v q t (f u v .1 m),
 )
 
 pub reach-up : (r : List (List ℕ)) (n : ℕ) (L : Limit) (m : ℕ) → Upward (PassesReach r n L) m

@@ -185,6 +185,10 @@ span-journey r L j (suc k) i u v e s =
           (λ (x : t ≢ i). within-less L (omega (arith, q .there t x)) (f .hops t)) (eq-or t i);
     }
 
+-- a journey by pick numbers, over the k picks from i on
+pub journey-span : (r : List (List ℕ)) (L : Limit) (i j k u v : ℕ) → suc j ≡ i + k → Journey r L i j u v ↔ Span r L i k u v
+journey-span r L i j k u v e = (λ f. crosses-span r L j k i u v (f .picks) e (f .crosses) (f .hops), span-journey r L j k i u v e)
+
 span-trip : (r : List (List ℕ)) (L : Limit) (k i u v : ℕ) → i + k ≤ length r → Span r L (suc i) k u v → Trip L (take k (drop i r)) u v
 span-trip r L zero i u v l s = s
 span-trip r L (suc k) i u v l s = rw (take-next r i k l) (s .0, s .1, span-trip r L k (suc i) (s .0) v (omega arith) (s .2))
@@ -201,10 +205,9 @@ pub journey-trip : (r : List (List ℕ)) (L : Limit) (i j u v : ℕ) → 1 ≤ i
 journey-trip r L zero j u v a b c = absurd (omega arith)
 journey-trip r L (suc i) j u v a b c =
     let e : j ≡ i + (j - i) = omega arith in
-    let w : window r (suc i) j ≡ take (j - i) (drop i r) = ap (λ (x : ℕ). window r (suc i) x) e ∙ window-at r i (j - i) in (
-      λ f. rw w (span-trip r L (j - i) i u v (omega arith) (crosses-span r L j (j - i) (suc i) u v (f .picks) (omega arith) (f .crosses) (f .hops))),
-      λ t. span-journey r L j (j - i) (suc i) u v (omega arith) (trip-span r L (j - i) i u v (omega arith) (rw w at t)),
-    )
+    let w : window r (suc i) j ≡ take (j - i) (drop i r) = ap (λ (x : ℕ). window r (suc i) x) e ∙ window-at r i (j - i) in
+    let s = journey-span r L (suc i) j (j - i) u v (omega arith) in
+    (λ f. rw w (span-trip r L (j - i) i u v (omega arith) (s .0 f)), λ t. s .1 (trip-span r L (j - i) i u v (omega arith) (rw w at t)))
 
 -- a journey over all picks
 pub journey-all : (r : List (List ℕ)) (L : Limit) (u v : ℕ) → Journey r L 1 (length r) u v ↔ Trip L r u v

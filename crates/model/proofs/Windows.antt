@@ -55,6 +55,10 @@ pub rec-window : (n i j : ℕ) (r : List (List ℕ)) → Recording n r → Recor
 unfolding window
 rec-window n i j r k = rec-take n (suc j - i) (drop (i - 1) r) (rec-drop n (i - 1) r k)
 
+pub rec-left : (n : ℕ) (x y : List (List ℕ)) → Recording n (x ++ y) → Recording n x
+rec-left n [] y k = tt
+rec-left n (p ∷ ps) y k = (k .0, rec-left n ps y (k .1))
+
 pub rec-append : (n : ℕ) (x y : List (List ℕ)) → Recording n x → Recording n y → Recording n (x ++ y)
 rec-append n [] y a b = b
 rec-append n (p ∷ ps) y a b = (a .0, rec-append n ps y (a .1) b)
