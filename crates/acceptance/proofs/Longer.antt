@@ -11,11 +11,11 @@ use lib.Seq.{length-take-le, getD-take, getD-append-add}
 use Rattle.model.specs.Recording.{link, Recording, pickAt}
 use Rattle.model.specs.Journey.{Limit, unlimited, atMost}
 use Rattle.model.specs.Measures.{SomeLink}
-use Rattle.model.specs.Length.{Smallest, Upward}
+use Rattle.model.specs.Length.{Every, Smallest, Upward}
 use Rattle.model.proofs.Logic.{le-or-lt}
 use Rattle.model.proofs.Windows.{rec-left, rec-append}
-use Rattle.model.proofs.Lengths.{Agree, Inside, smallest-one, smallest-agree, upward-agree, smallest-all, smallest-both}
-use Rattle.model.proofs.Monotone.{some-wider}
+use Rattle.model.proofs.Lengths.{Agree, Inside, smallest-one, smallest-agree, upward-agree, smallest-all, every-narrower, every-both, smallest-both}
+use Rattle.model.proofs.Monotone.{some-wider, common-down}
 use Rattle.model.proofs.Shifted.{Shifted, shifted-back, shifted-left, shifted-right, some-shifted, common-shifted, footprint-shifted, reach-shifted}
 use Rattle.model.proofs.Shifted.{round-shifted, listed-left, listed-append}
 use Rattle.measures.specs.Kit.{hops01, turn01}
@@ -33,7 +33,7 @@ use Rattle.law.proofs.Whole.{whole}
 use Rattle.numbers.specs.Events.{afterEvents, takenOf}
 use Rattle.numbers.proofs.Events.{any-order}
 use Rattle.acceptance.specs.Longer.{SaysLength, rounds, repeated, RepeatedDesign, RepeatedRuns, WalkAnswers, GoingOn, GoneOn, first-walk, next-walk}
-use Rattle.acceptance.specs.Longer.{GoingOnAndOn}
+use Rattle.acceptance.specs.Longer.{RepeatedCommon, GoingOnAndOn, CountedOn, first-counted, next-counted, CommonOnAndOn}
 
 -- ---- by the measure's number
 
@@ -168,19 +168,28 @@ module _ (design : List (List ℕ)) (some : 1 ≤ length design) where
     )
 
     -- a window of at most m - d + 1 picks, wherever it stands, is one of the first m picks
+    every-repeated : {k : ℕ} (measure n : ℕ) (footprint : List ℕ) → 1 ≤ k → k + d ≤ m + 1 → Every (Passes measure n footprint (repeated design m)) m k
+        → Every (Passes measure n footprint (repeated design more)) more k
+    every-repeated {k} measure n footprint low room s i j a b e =
+        let g = in-round d i some a in
+        let y = g .x + k - 1 in
+        alike measure n footprint (repeated-shifted m more (g .q) (g .x) y i j (g .from) (omega arith) b (g .at) (omega arith)) (omega arith) .0
+        (s (g .x) y (g .from) (omega arith) (omega arith))
+
     smallest-repeated : {k : ℕ} (measure n : ℕ) (footprint : List ℕ) → k + d ≤ m + 1 → Smallest (Passes measure n footprint (repeated design m)) m k
         → Smallest (Passes measure n footprint (repeated design more)) more k
     smallest-repeated {k} measure n footprint room s =
         smallest-all (λ i j h l a b c e f. alike measure n footprint (first-shifted i j h l a c e f) b) longer s
-        (λ i j a b e. let g = in-round d i some a in
-        let z = s .low in
-        let y = g .x + k - 1 in
-        alike measure n footprint (repeated-shifted m more (g .q) (g .x) y i j (g .from) (omega arith) b (g .at) (omega arith)) (omega arith) .0
-        (s .every (g .x) y (g .from) (omega arith) (omega arith)))
+        (every-repeated measure n footprint (s .low) room (s .every))
 
 pub repeated-design : RepeatedDesign
 repeated-design n measure footprint low design some m more k longer s room =
     is-smallest measure low .1 (smallest-repeated design some m more longer measure n footprint (omega arith) (is-smallest measure low .0 s))
+
+pub repeated-common : RepeatedCommon
+repeated-common n footprint design some m more k l longer s low few room =
+    every-repeated design some m more longer 1 n footprint low (omega arith)
+    (every-narrower l (common-down (repeated design m) n m) (s .high) low few (s .every))
 
 -- what a whole run tells of m picks r: its footprint has exactly their links, and its outcome is right
 record Told (n measure : ℕ) (w : List ℕ) (o : Outcome) (r : List (List ℕ)) (m : ℕ) : Type 0 where
@@ -271,3 +280,25 @@ going-on-and-on n measure footprint low ws k g = is-smallest measure low .1 (til
 pub going-on : GoingOn
 going-on n measure footprint low before last after limit k a f limit-anew l b g room =
     going-on-and-on n measure footprint low (before ++ (last ++ after)) (max k l) (next-walk before last after (first-walk f) g (omega arith))
+
+-- ---- how many picks may be counted on
+
+-- each walk of measure 1 lets every window of l of its picks pass
+walk-counted : (n limit : ℕ) (footprint a : List ℕ) (ws : List (List ℕ)) (k l : ℕ) → WalkAnswers n 1 limit footprint a ws k → 1 ≤ l → l ≤ k
+    → Every (Passes 1 n footprint ws) (length ws) l
+walk-counted n limit footprint a ws k l g low few =
+    go (online n 1 limit footprint a (g .opened) ws (g .taken) (some-taken n 1 limit footprint a ws k g) .right) (g .says)
+  where
+    go : {o : Outcome} → Right 1 (Passes 1 n footprint ws) (length ws) o → SaysLength o k → Every (Passes 1 n footprint ws) (length ws) l
+    go (answered e s) z = every-narrower l (common-down ws n (length ws)) (s .high) low (rw (z .1) few) (s .every)
+    go (none-exists e f) z = let y = z .0 in absurd (omega arith)
+
+pub common-on-and-on : CommonOnAndOn
+common-on-and-on n footprint l low ws (first-counted {limit} {k} {a} g few) = walk-counted n limit footprint a ws k l g low few
+common-on-and-on n footprint l low ws (next-counted {limit} {k} {b} before last after f g few room) =
+    let c = length-append before last in
+    let d = length-append last after in
+    let e = length-append before (last ++ after) in
+    every-both (length before) (rw append-assoc at (left-inside 1 n footprint (before ++ last) after)) (right-inside 1 n footprint before (last ++ after))
+    (omega arith) low (omega arith) (common-on-and-on n footprint l low (before ++ last) f)
+    (walk-counted n limit footprint b (last ++ after) k l g low few)

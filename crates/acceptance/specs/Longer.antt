@@ -1,8 +1,10 @@
--- WHAT LENGTHS SAY OF MORE PICKS than were handed over: a design that is repeated, and going on past the limit. Measures 2, 3 and 4.
+-- WHAT LENGTHS SAY OF MORE PICKS than were handed over: a design that is repeated, and going on past the limit. Under measures 2, 3 and 4 what is the
+-- length of more picks; under measure 1 how many picks may be counted on.
 use mathlib.Core.Path.{_≡_}
 use mathlib.Core.List.{List, [], _++_}
 use Prim.Native.Nat.{ℕ, zero, suc, max, _+_, _≤_}
 use lib.ListN.{length, take}
+use Rattle.model.specs.Length.{Every}
 use Rattle.verdicts.specs.Verdicts.{openVerdict, wholeVerdict}
 use Rattle.calls.specs.Answers.{Outcome}
 use Rattle.calls.specs.Calls.{lengthSays, wholeSays}
@@ -39,6 +41,12 @@ RepeatedRuns = (n measure : ℕ) → 2 ≤ measure → (design : List (List ℕ)
     → (x b : List ℕ) → wholeVerdict n measure x b ≡ 0 → lentRecording n x ≡ repeated design more
     → SaysLength (wholeSays n measure x b) k
 
+-- Under measure 1 every window passes, in every greater number of picks, of as many picks as are at most the length of the m and at most m - d + 1.
+abbrev pub RepeatedCommon : Type 0
+RepeatedCommon = (n : ℕ) (footprint : List ℕ) (design : List (List ℕ)) → 1 ≤ length design → (m more k l : ℕ) → m ≤ more
+    → IsLength 1 (Passes 1 n footprint (repeated design m)) m k → 1 ≤ l → l ≤ k → l + length design ≤ m + 1
+    → Every (Passes 1 n footprint (repeated design more)) more l
+
 -- ---- going on past the limit
 
 -- a walk is opened and takes the picks ws, and the length call then answers k
@@ -66,3 +74,14 @@ pub data GoneOn (n measure : ℕ) (footprint : List ℕ) : List (List ℕ) → �
 abbrev pub GoingOnAndOn : Type 0
 GoingOnAndOn = (n measure : ℕ) (footprint : List ℕ) → 2 ≤ measure → (ws : List (List ℕ)) (k : ℕ) → GoneOn n measure footprint ws k
     → IsLength measure (Passes measure n footprint ws) (length ws) k
+
+-- under measure 1: l picks are at most the length of each walk, and at most one more than are handed over again
+pub data CountedOn (n : ℕ) (footprint : List ℕ) (l : ℕ) : List (List ℕ) → Type 0 where
+  first-counted : {limit k : ℕ} {a : List ℕ} {ws : List (List ℕ)} → WalkAnswers n 1 limit footprint a ws k → l ≤ k → CountedOn n footprint l ws
+  next-counted : {limit k : ℕ} {b : List ℕ} (before last after : List (List ℕ)) → CountedOn n footprint l (before ++ last)
+      → WalkAnswers n 1 limit footprint b (last ++ after) k → l ≤ k → l ≤ length last + 1 → CountedOn n footprint l (before ++ (last ++ after))
+
+-- Then every window of l of all picks together passes.
+abbrev pub CommonOnAndOn : Type 0
+CommonOnAndOn = (n : ℕ) (footprint : List ℕ) (l : ℕ) → 1 ≤ l → (ws : List (List ℕ)) → CountedOn n footprint l ws
+    → Every (Passes 1 n footprint ws) (length ws) l

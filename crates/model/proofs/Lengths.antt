@@ -4,7 +4,7 @@ use mathlib.Core.Logic.{_≢_, _⊎_, inl, inr, ⊎-elim, _↔_}
 use Prim.Native.Nat.{ℕ, zero, suc, max, _+_, _-_, _≤_, _<_}
 use native.Mathlib.Nat.{le-refl}
 use native.Mathlib.Omega.{arith}
-use Rattle.model.specs.Length.{Every, Smallest, Largest, NoLength, HasSmallest, Upward}
+use Rattle.model.specs.Length.{Every, Smallest, Largest, NoLength, HasSmallest, Downward, Upward}
 use Rattle.model.proofs.Logic.{eq-or, le-or-lt, dec-every}
 
 -- there is one smallest length, and one largest
@@ -119,19 +119,37 @@ every-wider : {P : ℕ → ℕ → Type 0} {m k : ℕ} (l : ℕ) → Upward P m 
 every-wider {k = k} l up a b f i j c d e =
     up i (i + k - 1) i j c (le-refl i) (omega arith) (omega arith) d (f i (i + k - 1) c (omega arith) (omega arith))
 
--- THEOREM. All picks are the first m, under P, and those from x + 1 on, under Q. The greater of the two lengths is that of all, if so many picks in a row
--- always lie in one of the two.
+-- where they pass, narrower ones do
+pub every-narrower : {P : ℕ → ℕ → Type 0} {m k : ℕ} (l : ℕ) → Downward P m → k ≤ m → 1 ≤ l → l ≤ k → Every P m k → Every P m l
+every-narrower {m = m} {k = k} l down h a b f i j c d e =
+    ⊎-elim (λ (g : i + k ≤ m + 1). down i (i + k - 1) i j c (le-refl i) (omega arith) (omega arith) (omega arith)
+    (f i (i + k - 1) c (omega arith) (omega arith)))
+    (λ (g : m + 1 < i + k). down (m + 1 - k) m i j (omega arith) (omega arith) (omega arith) d (le-refl m) (f (m + 1 - k) m (omega arith) (le-refl m)
+    (omega arith)))
+    (le-or-lt (i + k) (m + 1))
+
+-- All picks are the first m, under P, and those from x + 1 on, under Q. Where windows of k pass in both, they do in all, if so many picks in a row always lie
+-- in one of the two.
+pub every-both : {P Q R : ℕ → ℕ → Type 0} {m rest all k : ℕ} (x : ℕ) → Inside P m R 0 → Inside Q rest R x → rest + x ≡ all → 1 ≤ k → k + x ≤ m + 1
+    → Every P m k → Every Q rest k → Every R all k
+every-both {m = m} x e f w low room s t i j a b c =
+    ⊎-elim (λ (g : j ≤ m). e i j i j a (omega arith) g (omega arith) (omega arith) .0 (s i j a g c))
+    (λ (g : m < j). f (i - x) (j - x) i j (omega arith) (omega arith) (omega arith) (omega arith) (omega arith) .0
+    (t (i - x) (j - x) (omega arith) (omega arith) (omega arith)))
+    (le-or-lt j m)
+
+-- THEOREM. Then the greater of the two lengths is that of all.
 pub smallest-both : {P Q R : ℕ → ℕ → Type 0} {m rest all k l : ℕ} (x : ℕ) → Inside P m R 0 → m ≤ all → Inside Q rest R x → rest + x ≡ all
     → Upward P m → Upward Q rest → Smallest P m k → Smallest Q rest l → max k l + x ≤ m + 1 → Smallest R all (max k l)
 smallest-both {m = m} {k = k} {l = l} x e h f w up up-rest s t room =
-    let wide = every-wider (max k l) up (s .low) (omega arith) (s .every) in
-    let wide-rest = every-wider (max k l) up-rest (t .low) (omega arith) (t .every) in
+    let a = s .low in
+    let b = s .high in
+    let c = t .high in
     record {
       low = omega arith;
       high = omega arith;
-      every = λ i j a b c. ⊎-elim (λ (g : j ≤ m). e i j i j a (omega arith) g (omega arith) (omega arith) .0 (wide i j a g c))
-          (λ (g : m < j). f (i - x) (j - x) i j (omega arith) (omega arith) (omega arith) (omega arith) (omega arith) .0
-          (wide-rest (i - x) (j - x) (omega arith) (omega arith) (omega arith))) (le-or-lt j m);
+      every = every-both x e f w (omega arith) room (every-wider (max k l) up (s .low) (omega arith) (s .every))
+          (every-wider (max k l) up-rest (t .low) (omega arith) (t .every));
       least = λ y a b g. ⊎-elim (λ (c : k ≤ y). t .least y a (omega arith) (every-inside x f (omega arith) a g))
           (λ (c : y < k). s .least y a c (every-inside 0 e (omega arith) a g)) (le-or-lt k y);
     }
