@@ -1,13 +1,14 @@
 -- CONDITION 2 of the tender, over the definitions that the calls' promises cite.
 use mathlib.Core.Path.{_≡_}
 use mathlib.Core.Logic.{_≢_, _↔_}
-use mathlib.Core.List.{List, _∷_, _++_}
-use Prim.Native.Nat.{ℕ, _-_, _*_, _/_, _≤_}
+use mathlib.Core.List.{List, [], _∷_, _++_}
+use Prim.Native.Nat.{ℕ, _+_, _-_, _*_, _/_, _≤_}
 use mathlib.Core.Bool.{Bool}
 use lib.Dec.{T}
 use lib.ListN.{length, take}
 use Rattle.model.specs.Recording.{link}
 use Rattle.model.specs.Journey.{unlimited, Journey}
+use Rattle.place.specs.declared.Place.{Place}
 use Rattle.calls.specs.Answers.{Outcome}
 use Rattle.verdicts.specs.Verdicts.{openVerdict, wholeVerdict}
 use Rattle.steps.specs.Walk.{State}
@@ -75,6 +76,19 @@ PickByPickBounded = (n measure limit : ℕ) (footprint a : List ℕ) → openVer
 -- So are those of whole runs.
 abbrev pub WholeRunsBounded : Type 0
 WholeRunsBounded = (n measure : ℕ) (w a : List ℕ) → wholeVerdict n measure w a ≡ 0 → Bounded (length w / n) (wholeSays n measure w a)
+
+-- What a pick charges, the m-th taken, from the place p that it is handed to the place q that it leaves.
+pub record Spent (measure m : ℕ) (p q : Place) : Type 0 where
+  pub compositions : q .counts .compositions .0 ≤ p .counts .compositions .0 + (m - 1)
+  pub tests : q .counts .tests .0 ≤ p .counts .tests .0 + m
+  pub one-test : measure ≢ 1 → q .counts .tests .0 ≡ p .counts .tests .0 + 1
+
+-- ONE PICK. The m-th pick taken makes at most m - 1 compositions and at most m tests; under measures 2 to 4 exactly one test.
+abbrev pub OnePickBounded : Type 0
+OnePickBounded = (n measure limit : ℕ) (footprint a : List ℕ) → openVerdict n measure limit footprint a ≡ 0
+    → (ws : List (List ℕ)) (w : List ℕ) → EachTaken (openState n measure limit footprint a) (ws ++ (w ∷ []))
+    → Spent measure (length ws + 1) (afterPicks (openState n measure limit footprint a) ws .place)
+    (afterPicks (openState n measure limit footprint a) (ws ++ (w ∷ [])) .place)
 
 -- ANY ORDER OF CALLS. After every list of picks, taken or refused, and length calls, place and area are those of the picks taken so far, and a length call
 -- answers for these.

@@ -22,6 +22,7 @@
 --       `numbers/specs/Events`, hand each call what the last one left; stopped and started at any pick: Condition2.StopAndStart
 --   "Compositions and tests are those of the walk in document 01": Condition2.CountsPickByPick, CountsWhole
 --   "at most 4(m - 1) and 2m for m picks": Condition2.PickByPickBounded, WholeRunsBounded
+--   "the controller budgets its turn by them", so what one pick costs: Condition2.OnePickBounded
 -- CONDITION 3
 --   Condition3.Condition3, both ways
 --

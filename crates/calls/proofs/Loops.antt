@@ -157,14 +157,17 @@ module _ {p q : Place} {w a b : List ℕ} {m k : ℕ} (g : AfterPicks p w a m k 
       → drop ((q .settings .limit + 4) * partSize (kitOf (q .settings))) d ≡ drop ((q .settings .limit + 4) * partSize (kitOf (q .settings))) b
       → AfterPicks p w a m (k + 1) r d
   along-turn {r} {d} e size out =
-      let s = subst (λ (x : Place). Stepped q x) (sym e) (stepped-grown q b pick (g .ready) room) in
+      let s = subst (λ (x : Place). Stepped q x) (sym e) (stepped-grown q b pick (g .ready)) in
       let u = s .grown in
       let sc = u .comps in
       let sT = u .tests in
+      let sf = s .few in
       let sm = u .taken in
       let gc = g .comps in
       let gt = g .tests in
       let gm = g .taken in
+      let z = g .starts .ready .able .cap in
+      let y = g .starts .limit in
       record {
         starts = g .starts;
         low = omega arith;

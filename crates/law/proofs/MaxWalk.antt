@@ -21,7 +21,11 @@ use Rattle.steps.proofs.Grown.{tried-grown, raised-grown}
 use Rattle.law.specs.Ladders.{mOf, sOf, bOf, limitOf, WindowTables, holds, Law, Decides, Laddered}
 use Rattle.law.specs.Invariants.{Fails, MaxAnswer, MaxGoing, atEnd, MaxEnded, MaxInvariant, MaxKeepsClaim, MaxReportsClaim}
 use Rattle.law.proofs.Ladders.{not-lt, entered-by, raised-laddered, tried-tests, cleared-laddered, cleared-window}
-use Rattle.law.proofs.MinWalk.{val-no, cost-far, cost-near, rise-far, rise-near}
+use Rattle.law.proofs.MinWalk.{cost-far, cost-near, rise-far, rise-near}
+
+val-no : (b : Bool) → (T b → ⊥) → val b ≡ 0
+val-no true f = absurd (f tt)
+val-no false f = refl
 
 -- no longer length than a row that fails
 pub fails-greatest : (P : ℕ → ℕ → Type 0) (M m k l : ℕ) → Downward P M → m ≤ M → Fails P m k → 1 ≤ k → k ≤ l → l ≤ m

@@ -2,10 +2,10 @@
 -- most 3(m - 1) compositions, and the parts hold what document 01 says. The kit is a parameter. Assumes nothing.
 use Prim.Native.Nat.{ℕ, zero, suc, _+_, _-_, _*_, _≤_, _<_}
 use native.Mathlib.Omega.{arith}
-use mathlib.Core.Path.{_≡_, refl, sym, ap, _∙_, subst}
+use mathlib.Core.Path.{_≡_, sym, ap, _∙_, subst}
 use mathlib.Core.Bool.{Bool, true, false, _&&_, not, cond}
-use lib.Dec.{T, leb, ltb, leb→le, ltb→lt, eqb}
-use Rattle.model.proofs.Logic.{and-l, and-r, eq-or, and-both, cond-ind}
+use lib.Dec.{T, leb, ltb, ltb→lt, eqb}
+use Rattle.model.proofs.Logic.{and-r, eq-or, and-both, cond-ind}
 use Rattle.model.specs.Journey.{val}
 use mathlib.Core.Logic.{_≢_, ⊎-elim}
 use mathlib.Core.List.{List}
@@ -16,6 +16,7 @@ use Rattle.model.specs.Length.{Every, Upward}
 use Rattle.place.specs.Places.{picksTaken, startMoved, boundaryMoved, charged, tested}
 use Rattle.steps.specs.Walk.{State, written, rebuilt, joined, extendedBy, extended, entered, onLeft, onRight, windowed, judged, tried, cleared}
 use Rattle.steps.specs.Walk.{minStep, reported}
+use Rattle.steps.proofs.Enough.{join-charge, window-charge}
 use Rattle.area.proofs.Laws.{zero-same}
 use Rattle.law.specs.Ladders.{mOf, sOf, bOf, limitOf, WindowTables, Law, Decides, Laddered}
 use Rattle.law.specs.Invariants.{Fails, MinAnswer, MinInvariant, MinKeepsClaim, MinReportsClaim}
@@ -23,13 +24,9 @@ use Rattle.law.proofs.Ladders.{not-lt, entered-by, tried-tests, cleared
 
 -- ---- what a pick and a rise cost at most, on numbers alone
 
-pub val-no : (b : Bool) → (T b → ⊥) → val b ≡ 0
-val-no true f = absurd (f tt)
-val-no false f = refl
-
 -- the window from s to m, where b is m: no composition
 full-left : (s m : ℕ) → val (leb s m && ltb m m) ≡ 0
-full-left s m = val-no (leb s m && ltb m m) (λ t. let l = ltb→lt m m (and-r (leb s m) (ltb m m) t) in omega arith)
+full-left s m = omega (arith, window-charge s m m)
 
 -- A new pick with its test costs at most two more; or, where b becomes m, what building the left ladder costs. So the whole stays within
 -- twice the picks after the first, and once the boundary, and c.
@@ -39,11 +36,7 @@ cost-far comps b m s c bd far l h = omega (arith, full-left s (m + 1))
 
 pub cost-near : (comps b m s c : ℕ) → b ≤ m → 1 ≤ s → s ≤ b + 1 → comps ≤ c + 2 * (m - 1) + (b - 1)
     → comps + val (ltb (b + 1) (m + 1)) + val (leb s b && ltb b (m + 1)) ≤ c + 2 * (m + 1 - 1) + (b - 1)
-cost-near comps b zero s c bd a near h =
-    let right : val (ltb (b + 1) (0 + 1)) ≡ 0 = val-no (ltb (b + 1) (0 + 1)) (λ t. let l = ltb→lt (b + 1) (0 + 1) t in omega arith) in
-    let left : val (leb s b && ltb b (0 + 1)) ≡ 0 = val-no (leb s b && ltb b (0 + 1))
-    (λ t. let l = leb→le s b (and-l (leb s b) (ltb b (0 + 1)) t) in omega arith) in
-    omega arith
+cost-near comps b zero s c bd a near h = omega (arith, join-charge b (0 + 1), window-charge s b (0 + 1))
 cost-near comps b (suc m) s c bd a near h = omega (arith, val-le (ltb (b + 1) (suc m + 1)), val-le (leb s b && ltb b (suc m + 1)))
 
 -- a rise within a pick, with its test, costs at most one more; or what building the left ladder costs

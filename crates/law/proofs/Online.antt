@@ -26,6 +26,7 @@ use Rattle.verdicts.proofs.Verdicts.{open-sound, pick-sound}
 use Rattle.steps.specs.Walk.{State, state, kitOf, stepped, reported}
 use Rattle.steps.proofs.Fit.{measure-of, limit-of}
 use Rattle.steps.proofs.Frames.{frame-tables, stepped-frame}
+use Rattle.steps.proofs.Ready.{Stepped, sound-ready, stepped-grown}
 use Rattle.model.specs.Causes.{firstOf}
 use Rattle.calls.specs.Answers.{answerBy}
 use Rattle.calls.specs.Calls.{openedArea, openSays, openLeaves, reportSays, lengthSays}
@@ -35,7 +36,7 @@ use Rattle.law.specs.Ladders.{mOf, limitOf, Holds, lastEntered}
 use Rattle.law.specs.Course.{Course, courseOf, tables, walkFrom, stateAt}
 use Rattle.law.specs.Claim2.{openState, picked, afterPicks, EachTaken, Fits, Walked, OnlineClaim, TakenPickClaim, RefusedPickClaim}
 use Rattle.law.specs.Correct.{Passes, Right, Counted}
-use Rattle.law.proofs.Walks.{course-right, course-settled, told, parts, stepped-settled}
+use Rattle.law.proofs.Walks.{Settled, course-right, course-settled, told, parts, stepped-settled}
 
 -- ---- picks through the call, one after the other
 
@@ -52,11 +53,24 @@ taken-split st (w ∷ ws) y = let e = taken-split (picked st w) ws y in (
   ),
 )
 
+-- and come to the same state
+pub after-split : (st : State) (x y : List (List ℕ)) → afterPicks st (x ++ y) ≡ afterPicks (afterPicks st x) y
+unfolding afterPicks
+after-split st [] y = refl
+after-split st (w ∷ ws) y = after-split (picked st w) ws y
+
 pub pick-taken : TakenPickClaim
 pick-taken st w e = taken-state (st .place) (st .area) w e
 
 pub refused-pick-stays : RefusedPickClaim
 refused-pick-stays st w f = refused-state (st .place) (st .area) w (F→≡ _ (λ t. f (eqb→eq (pickVerdict (st .place) (st .area) w) 0 t)))
+
+-- what it does to the numbers of a place, from any place and any words where it is taken
+pub pick-stepped : (st : State) (w : List ℕ) → pickVerdict (st .place) (st .area) w ≡ 0 → Stepped (st .place) (picked st w .place)
+pick-stepped st w e =
+    let t = pick-sound (st .place) (st .area) w e in
+    subst (λ (x : State). Stepped (st .place) (x .place)) (sym (pick-taken st w e))
+    (stepped-grown (st .place) (st .area) w (sound-ready (t .sound) (t .room)))
 
 -- ---- what picks that were taken tell
 
@@ -193,6 +207,11 @@ module _ (n measure limit : ℕ) (footprint a : List ℕ) (e : openVerdict n mea
 
   pub taken-walks : afterPicks (openState n measure limit footprint a) ws ≡ stateAt takenCourse 0 (length ws)
   taken-walks = ap (λ (x : State). afterPicks x ws) (opened-start n measure limit footprint a e) ∙ walk .walk
+
+  -- the place then has the settings of the opening, and as many picks
+  pub taken-settled : Settled (settingsOf measure n limit) (length ws) (afterPicks (openState n measure limit footprint a) ws .place)
+  taken-settled = subst (λ (x : State). Settled (settingsOf measure n limit) (length ws) (x .place)) (sym taken-walks)
+      (course-settled takenCourse 0 (length ws))
 
   walked-right : 1 ≤ length ws → Walked n measure limit footprint ws (afterPicks (openState n measure limit footprint a) ws .place)
   walked-right some-pick =

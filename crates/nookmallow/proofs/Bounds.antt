@@ -84,6 +84,7 @@ stepped-narrow s h t =
     let g = u .bound (s .boundary-high) in
     let x = u .comps in
     let y = u .tests in
+    let z = t .few in
     record {
       boards = subst (λ (z : Settings). z .boards < 2 ^ 32) (sym (u .settings)) (small (omega arith));
       measure = subst (λ (z : Settings). z .measure < 2 ^ 32) (sym (u .settings)) (small (omega arith));
@@ -99,7 +100,7 @@ pub pick-narrow : (p : Place) (a w : List ℕ) → pickVerdict p a w ≡ 0 → N
 pick-narrow p a w e =
     let t = pick-sound p a w e in
     subst (λ (x : State). Narrow (x .place)) (sym (taken-state p a w e))
-    (stepped-narrow (t .sound) (t .below) (stepped-grown p a w (sound-ready (t .sound) (t .room)) (t .below)))
+    (stepped-narrow (t .sound) (t .below) (stepped-grown p a w (sound-ready (t .sound) (t .room))))
 
 -- ---- length
 

@@ -17,7 +17,7 @@ use Rattle.place.specs.Places.{perLadder}
 use Rattle.steps.proofs.Fit.{able-kept, limit-of, lends-kept, fit-at}
 use Rattle.model.proofs.Bits.{val-le}
 
--- What a step does to the numbers of a place: m picks are taken and the start rises by k; at most c compositions and t tests are charged. Only parts
+-- What a step does to the numbers of a place: m picks are taken and the start rises by k; t tests are charged, and at most c compositions. Only parts
 -- from max (s + 1, b + 2) on are free to be built anew, and that bound never falls.
 pub record Grown (p q : Place) (m k c t : ℕ) : Type 0 where
   pub settings : q .settings ≡ p .settings
@@ -26,7 +26,7 @@ pub record Grown (p q : Place) (m k c t : ℕ) : Type 0 where
   pub reach : max (p .window .start .0 + 1) (p .window .boundary .0 + 2) ≤ max (q .window .start .0 + 1) (q .window .boundary .0 + 2)
   pub bound : p .window .boundary .0 ≤ p .window .taken .0 → q .window .boundary .0 ≤ q .window .taken .0
   pub comps : q .counts .compositions .0 ≤ p .counts .compositions .0 + c
-  pub tests : q .counts .tests .0 ≤ p .counts .tests .0 + t
+  pub tests : q .counts .tests .0 ≡ p .counts .tests .0 + t
 
 -- nothing done
 pub grown-none : (p : Place) → Grown p p 0 0 0 0
@@ -62,8 +62,8 @@ grown-on g h =
       tests = omega arith;
     }
 
--- the same numbers, and more may be charged than is
-pub grown-to : {p q : Place} {m k c t n i d u : ℕ} → Grown p q m k c t → m ≡ n → k ≡ i → c ≤ d → t ≤ u → Grown p q n i d u
+-- the same numbers, and more compositions may be charged than are
+pub grown-to : {p q : Place} {m k c t n i d u : ℕ} → Grown p q m k c t → m ≡ n → k ≡ i → c ≤ d → t ≡ u → Grown p q n i d u
 grown-to g e h a b =
     let gm = g .taken in
     let gs = g .start in
@@ -248,43 +248,22 @@ pub again-grown : (K : Kit) (st : State) → Grown (st .place) (again K st .plac
 unfolding again
 again-grown K st = grown-on (raised-grown K st) (tried-grown K (raised K st))
 
--- A rise builds the left ladder only where the boundary is behind the last pick, and puts it there: in one pick that happens once. Other rises
--- charge c compositions at most.
-pub record Once (p q : Place) (c : ℕ) : Type 0 where
-  pub near : q .window .start .0 ≤ q .window .boundary .0 + 1
-  pub full : p .window .taken .0 ≤ p .window .boundary .0 → q .counts .compositions .0 ≤ p .counts .compositions .0 + c
-  pub early : q .window .boundary .0 < q .window .taken .0 → (p .window .boundary .0 < p .window .taken .0)
-      × (q .counts .compositions .0 ≤ p .counts .compositions .0 + c)
-
-raised-once-by : (K : Kit) (st : State) (x : Bool) → far (startMoved (st .place) 1) ≡ x → st .place .window .start .0 < st .place .window .taken .0
-    → Once (st .place) (raisedBy K x (state (startMoved (st .place) 1) (st .area)) .place) 0
+-- and then the start is not beyond b + 1
+raised-near-by : (K : Kit) (st : State) (x : Bool) → far (startMoved (st .place) 1) ≡ x → st .place .window .start .0 < st .place .window .taken .0
+    → raisedBy K x (state (startMoved (st .place) 1) (st .area)) .place .window .start .0 ≤ raisedBy K x
+    (state (startMoved (st .place) 1) (st .area)) .place .window .boundary .0 + 1
 unfolding raisedBy rebuilt charged boundaryMoved startMoved
-raised-once-by K st true e h =
-    let f = ltb-true (st .place .window .boundary .0 + 1) (st .place .window .start .0 + 1) e in
-    record { near = omega arith; full = λ y. absurd (omega arith); early = λ y. absurd (omega arith) }
-raised-once-by K st false e h =
-    let f = ltb-false (st .place .window .boundary .0 + 1) (st .place .window .start .0 + 1) e in
-    record { near = f; full = λ y. omega arith; early = λ y. (y, omega arith) }
+raised-near-by K st true e h = omega arith
+raised-near-by K st false e h = ltb-false (st .place .window .boundary .0 + 1) (st .place .window .start .0 + 1) e
 
-raised-once : (K : Kit) (st : State) → st .place .window .start .0 < st .place .window .taken .0 → Once (st .place) (raised K st .place) 0
-unfolding raised
-raised-once K st h = raised-once-by K st (far (startMoved (st .place) 1)) refl h
-
-pub again-once : (K : Kit) (st : State) → st .place .window .start .0 < st .place .window .taken .0 → Once (st .place) (again K st .place) 1
-unfolding again
-again-once K st h =
-    let o = raised-once K st h in
-    let n = o .near in
-    let g = tried-grown K (raised K st) in
-    let gs = g .start in
-    let gm = g .taken in
-    let gc = g .comps in
-    let gb = tried-bound K (raised K st) in
-    record {
-      near = omega arith;
-      full = λ y. let z = o .full y in omega arith;
-      early = λ y. let z = o .early (omega arith) in let zc = z .1 in (z .0, omega arith);
-    }
+pub again-near : (K : Kit) (st : State) → st .place .window .start .0 < st .place .window .taken .0
+    → again K st .place .window .start .0 ≤ again K st .place .window .boundary .0 + 1
+unfolding again raised
+again-near K st h =
+    let n = raised-near-by K st (far (startMoved (st .place) 1)) refl h in
+    let s = tried-grown K (raised K st) .start in
+    let b = tried-bound K (raised K st) in
+    omega arith
 
 -- ---- what a step may go on from
 

@@ -1,6 +1,7 @@
 -- What the steps of the walk keep. A caller of `step` needs `Ready` alone, and `Fit` for kits.
 pub mod Fit
 pub mod Grown
+pub mod Enough
 pub mod Rises
 pub mod Closes
 pub mod Frames

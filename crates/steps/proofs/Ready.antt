@@ -1,24 +1,25 @@
 -- For callers of `step`: a place that is ready takes a pick, and is ready again after it. From step to step the counts grow by
--- `perPick` at most, so 4096 picks from small counts stay below what `Takes` allows. Assumes nothing.
-use Prim.Native.Nat.{ℕ, _+_, _*_, _≤_, _<_, max}
+-- less than `perPick`, so 4096 picks from small counts stay below what `Takes` allows. Assumes nothing.
+use Prim.Native.Nat.{ℕ, _+_, _-_, _*_, _≤_, _<_, max}
 use native.Mathlib.Omega.{arith}
 use mathlib.Core.Path.{_≡_, refl, sym, ap}
-use mathlib.Core.Logic.{⊎-elim}
-use mathlib.Core.Bool.{Bool, true, false, cond}
+use mathlib.Core.Logic.{_≢_, ⊎-elim}
+use mathlib.Core.Bool.{Bool, false}
 use mathlib.Core.List.{List}
-use lib.Dec.{eqb}
+use lib.Dec.{eqb, eqb→eq}
 use lib.ListN.{length}
 use Rattle.model.specs.Journey.{val}
-use Rattle.model.proofs.Logic.{eq-or}
+use Rattle.model.proofs.Logic.{eq-or, cond-ind}
 use Rattle.measures.specs.Kit.{hops01}
 use Rattle.area.specs.Parts.{partSize}
 use Rattle.place.specs.declared.Place.{Place}
 use Rattle.place.specs.Places.{Sound, picksTaken, perPick, mostCounted}
-use Rattle.steps.specs.Walk.{state, kitOf, entered, tried, cleared, minStep, climbed, ended, maxStep, stepped}
+use Rattle.steps.specs.Walk.{State, state, kitOf, entered, tried, cleared, minStep, climbed, ended, maxStep, stepped}
 use Rattle.steps.specs.Fit.{rise, Takes, Ready}
 use Rattle.steps.proofs.Fit.{able-kept}
 use Rattle.model.proofs.Bits.{val-le}
-use Rattle.steps.proofs.Grown.{Grown, grown-on, grown-to, entered-grown, entered-near, tried-grown, tried-bound}
+use Rattle.steps.proofs.Grown.{Grown, grown-on, grown-to, grown-counted, entered-grown, entered-near, tried-grown, tried-bound}
+use Rattle.steps.proofs.Enough.{Enough, entered-enough}
 use Rattle.steps.proofs.Rises.{climbed-along}
 use Rattle.area.proofs.Laws.{kit-wide, own-wide}
 use Rattle.steps.proofs.Frames.{Frame, stepped-frame, Untouched}
@@ -72,18 +73,22 @@ sound-takes s room h e =
 
 -- ---- what `step` leaves
 
--- a pick is taken, and the start rises by some number; where both were so before, it is within b + 1 and within the picks taken
+-- A pick is taken, and the start rises by some number; where both were so before, it is within b + 1 and within the picks taken. At most one test is
+-- made for each pick from the old start up to the new pick, and one composition less than that; under every measure but 1 exactly one test.
 pub record Stepped (p q : Place) : Type 0 where
   pub by : ℕ
-  pub grown : Grown p q 1 by perPick perPick
+  pub tests : ℕ
+  pub grown : Grown p q 1 by (p .window .taken .0 + 1 - p .window .start .0) tests
   pub near : q .window .start .0 ≤ q .window .boundary .0 + 1
   pub inside : q .window .start .0 ≤ q .window .taken .0
+  pub few : tests ≤ p .window .taken .0 + 2 - p .window .start .0
+  pub one : p .settings .measure ≢ 1 → tests ≡ 1
 
-module _ (p : Place) (a w : List ℕ) {words : ℕ} (r : Ready p words) (h : p .window .taken .0 < p .settings .limit) where
+module _ (p : Place) (a w : List ℕ) {words : ℕ} (r : Ready p words) where
   -- entered and tested
   tried-on : (k : ℕ) → Grown p (tried (kitOf (p .settings)) (entered (kitOf (p .settings)) k w (state p a)) .place) 1 k (p .window .taken .0 + 3) 1
   tried-on k = grown-to (grown-on (entered-grown (kitOf (p .settings)) k w (state p a)) (tried-grown (kitOf (p .settings)) (entered (kitOf (p .settings)) k w
-      (state p a)))) refl (omega arith) (omega arith) (omega arith)
+      (state p a)))) refl (omega arith) (omega arith) refl
 
   tried-near : (k : ℕ) → p .window .start .0 + k ≤ p .window .taken .0 + 1
       → tried (kitOf (p .settings)) (entered (kitOf (p .settings)) k w (state p a)) .place .window .start .0 ≤ tried (kitOf (p .settings))
@@ -95,74 +100,84 @@ module _ (p : Place) (a w : List ℕ) {words : ℕ} (r : Ready p words) (h : p .
       let b = tried-bound (kitOf (p .settings)) st in
       omega arith
 
+  -- what is enough for the pick then
+  pick-enough : (k : ℕ) → Enough (p .counts .compositions .0 + (p .window .taken .0 + 1 - (p .window .start .0 + k))) 1
+      (tried (kitOf (p .settings)) (entered (kitOf (p .settings)) k w (state p a)) .place)
+  pick-enough k = entered-enough (kitOf (p .settings)) k w (state p a) (r .bound)
+
   min-place : Stepped p (minStep (kitOf (p .settings)) w (state p a) .place)
   unfolding minStep cleared
   min-place =
       let k = val (p .marks .passed) in
-      let cap = r .able .cap in
       let s = ahead-passed r in
       let g = tried-on k in
       let gs = g .start in
       let gm = g .taken in
-      record { by = k; grown = grown-to g refl refl (omega arith) (omega arith); near = tried-near k s; inside = omega arith }
-
-  climbed-place : Stepped p (climbed (kitOf (p .settings)) (tried (kitOf (p .settings)) (entered (kitOf (p .settings)) (val (p .marks .failed)) w
-      (state p a))) .place)
-  climbed-place =
-      let k = val (p .marks .failed) in
-      let st = tried (kitOf (p .settings)) (entered (kitOf (p .settings)) k w (state p a)) in
-      let cap = r .able .cap in
-      let low = r .start in
-      let s = ahead-failed r in
-      let g = tried-on k in
-      let gs = g .start in
-      let gm = g .taken in
-      let u = climbed-along (kitOf (p .settings)) st (omega arith) in
-      let most = u .1 .0 in
-      let v = u .1 .1 .grown in
-      let vs = v .start in
-      let vm = v .taken in
       record {
-        by = k + u .0;
-        grown = grown-to (grown-on g v) (omega arith) refl (omega arith) (omega arith);
-        near = u .1 .1 .near (tried-near k s);
+        by = k;
+        tests = 1;
+        grown = grown-to (grown-counted g (pick-enough k .within)) refl refl (omega arith) refl;
+        near = tried-near k s;
         inside = omega arith;
+        few = omega arith;
+        one = λ n. refl;
       }
 
-  max-place-by : (x : Bool)
-      → Stepped p (cond x (state (picksTaken p 1) a) (cleared (kitOf (p .settings)) (climbed (kitOf (p .settings)) (tried (kitOf (p .settings))
-      (entered (kitOf (p .settings)) (val (p .marks .failed)) w (state p a))))) .place)
-  unfolding cleared picksTaken
-  max-place-by true =
-      let n = r .near in
-      let b = r .bound in
-      record {
-        by = 0;
-        grown = record {
-          settings = refl;
-          taken = refl;
-          start = omega arith;
-          reach = omega arith;
-          bound = λ x. omega arith;
-          comps = omega arith;
-          tests = omega arith;
-        };
-        near = n;
-        inside = omega arith;
-      }
-  max-place-by false = climbed-place
+  module _ (is-one : p .settings .measure ≡ 1) where
+    climbed-place : Stepped p (climbed (kitOf (p .settings)) (tried (kitOf (p .settings)) (entered (kitOf (p .settings)) (val (p .marks .failed)) w
+        (state p a))) .place)
+    climbed-place =
+        let k = val (p .marks .failed) in
+        let st = tried (kitOf (p .settings)) (entered (kitOf (p .settings)) k w (state p a)) in
+        let s = ahead-failed r in
+        let g = tried-on k in
+        let gs = g .start in
+        let gm = g .taken in
+        let u = climbed-along (kitOf (p .settings)) st (omega arith) in
+        let most = u .1 .0 in
+        let v = u .1 .1 .grown in
+        let vs = v .start in
+        let vm = v .taken in
+        record {
+          by = k + u .0;
+          tests = 1 + u .0;
+          grown = grown-to (grown-counted (grown-on g v) (u .1 .1 .enough _ (pick-enough k) .within)) refl refl (omega arith) refl;
+          near = u .1 .1 .near (tried-near k s);
+          inside = omega arith;
+          few = omega arith;
+          one = λ n. absurd (n is-one);
+        }
 
-  max-place : Stepped p (maxStep (kitOf (p .settings)) w (state p a) .place)
-  unfolding maxStep
-  max-place = max-place-by (ended p)
-
-  stepped-place-by : (x : Bool) → Stepped p (cond x (maxStep (kitOf (p .settings)) w (state p a)) (minStep (kitOf (p .settings)) w (state p a)) .place)
-  stepped-place-by true = max-place
-  stepped-place-by false = min-place
+    max-place : Stepped p (maxStep (kitOf (p .settings)) w (state p a) .place)
+    unfolding maxStep cleared picksTaken
+    max-place =
+        let n = r .near in
+        let b = r .bound in
+        cond-ind (λ (q : State). Stepped p (q .place)) (ended p) (state (picksTaken p 1) a) _
+        (λ t. record {
+          by = 0;
+          tests = 0;
+          grown = record {
+            settings = refl;
+            taken = refl;
+            start = omega arith;
+            reach = omega arith;
+            bound = λ x. omega arith;
+            comps = omega arith;
+            tests = omega arith;
+          };
+          near = n;
+          inside = omega arith;
+          few = omega arith;
+          one = λ n. absurd (n is-one);
+        })
+        (λ t. climbed-place)
 
   pub stepped-grown : Stepped p (stepped (kitOf (p .settings)) w (state p a) .place)
   unfolding stepped
-  stepped-grown = stepped-place-by (eqb (p .settings .measure) 1)
+  stepped-grown =
+      cond-ind (λ (q : State). Stepped p (q .place)) (eqb (p .settings .measure) 1) _ _ (λ t. max-place (eqb→eq (p .settings .measure) 1 t))
+      (λ t. min-place)
 
 -- the parts of the area that a pick may write; the others and the words beyond them stay
 pub stepped-framed : (p : Place) (a w : List ℕ) → Ready p (length a) → p .window .taken .0 < p .settings .limit → p .settings .boards ≡ length w

@@ -3,30 +3,30 @@ use Prim.Native.Nat.{ℕ, zero, suc, _+_, _-_, _*_, _≤_, _<_}
 use native.Mathlib.Nat.{le-refl}
 use native.Mathlib.Omega.{arith}
 use mathlib.Core.Path.{_≡_, refl, sym, ap, ap₂, _∙_, subst}
-use mathlib.Core.Logic.{⊎-elim}
 use mathlib.Core.Bool.{Bool, true, false, cond}
 use mathlib.Core.List.{List}
 use lib.ListN.{length}
-use Rattle.model.proofs.Logic.{le-or-lt}
 use Rattle.measures.specs.Kit.{Kit}
 use Rattle.place.specs.declared.Place.{Place}
 use Rattle.steps.specs.Walk.{State, state, kitOf, again, climb, climbed}
 use Rattle.steps.specs.Fit.{Fit, Does}
 use Rattle.place.specs.Places.{perLadder}
 use Rattle.steps.proofs.Fit.{does-kit}
-use Rattle.steps.proofs.Grown.{Grown, grown-none, grown-on, grown-to, grown-counted, fit-grown, again-grown, again-once}
+use Rattle.steps.proofs.Grown.{Grown, grown-none, grown-on, grown-to, grown-counted, fit-grown, again-grown, again-near}
+use Rattle.steps.proofs.Enough.{Enough, enough-rises, again-enough}
 
--- after i rises from p: each charges one composition for its window, and one of them may have built the left ladder
+-- after i rises from p, each with its test
 pub record AfterRises (p q : Place) (i : ℕ) : Type 0 where
-  pub grown : Grown p q 0 i (p .window .taken .0 + i) i
+  pub grown : Grown p q 0 i (p .window .taken .0) i
   pub near : p .window .start .0 ≤ p .window .boundary .0 + 1 → q .window .start .0 ≤ q .window .boundary .0 + 1
-  pub early : q .window .boundary .0 < q .window .taken .0 → q .counts .compositions .0 ≤ p .counts .compositions .0 + i
+  -- what was enough for the pick is enough still
+  pub enough : (c : ℕ) → Enough c 1 p → Enough c 1 q
 
 pub along-none : (p : Place) → AfterRises p p 0
 along-none p = record {
-  grown = grown-to (grown-none p) refl refl (omega arith) (omega arith);
+  grown = grown-to (grown-none p) refl refl (omega arith) refl;
   near = λ x. x;
-  early = λ x. omega arith;
+  enough = λ c x. x;
 }
 
 -- one rise more, while s is below m
@@ -36,18 +36,11 @@ along-more {p} {q} {i} K a low h =
     let g = h .grown in
     let gm = g .taken in
     let gs = g .start in
-    let gc = g .comps in
-    let n = again-grown K (state q a) in
-    let nc = n .comps in
-    let o = again-once K (state q a) (omega arith) in
-    let c : again K (state q a) .place .counts .compositions .0 ≤ p .counts .compositions .0 + (p .window .taken .0 + (i + 1)) =
-    ⊎-elim (λ (f : q .window .taken .0 ≤ q .window .boundary .0). let z = o .full f in omega arith)
-    (λ (f : q .window .boundary .0 < q .window .taken .0). let z = h .early f in omega arith)
-    (le-or-lt (q .window .taken .0) (q .window .boundary .0)) in
+    let more : (c : ℕ) → Enough c 1 p → Enough c 1 (again K (state q a) .place) = λ c x. again-enough K (state q a) (omega arith) (h .enough c x) in
     record {
-      grown = grown-counted (grown-on g n) c;
-      near = λ x. o .near;
-      early = λ y. let z = o .early y in let zc = z .1 in let w = h .early (z .0) in omega arith;
+      grown = grown-counted (grown-on g (again-grown K (state q a))) (more (p .counts .compositions .0 + p .window .taken .0) (enough-rises p) .within);
+      near = λ x. again-near K (state q a) (omega arith);
+      enough = more;
     }
 
 -- the rises of the definition: at most k more
