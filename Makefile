@@ -42,7 +42,7 @@ check-abi: examples
 	sed -n '/---- An example/,/---- The words/s/^ \*     //p' include/nookmallow.h > target/abi/example.c
 	$(CC) -O2 $(WARN) -Werror -std=c99 -I$(OUT) target/abi/example.c $(LIB) -o target/abi/example
 	target/abi/example > target/abi/example.txt
-	test "$$(grep -c 'length 2, refusal 0' target/abi/example.txt)" = 3
+	printf 'pick %u: length %u, refusal %u\n' 1 0 9 2 2 0 3 2 0 4 2 0 | cmp - target/abi/example.txt
 	$(CC) -O2 -g $(WARN) -std=c99 -pthread -I$(OUT) abi/*.c $(LIB) -o target/abi/test
 	$(RUSTC) -O --edition 2021 abi/test.rs -L $(OUT) -o target/abi/test_rs
 	target/abi/test

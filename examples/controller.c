@@ -31,8 +31,8 @@ static const char *const remedies[17] = {
     "limit not 1 to 4096: correct the setup",
     "area too short: lend as many words as the macro says",
     "a forbidden bit: read the boards again",
-    "a link outside the list: open again with a new list",
-    "limit reached: open again, with a greater limit if need be",
+    "a link outside the list: open again with a wider list, and all picks from pick 1",
+    "limit reached: open again, hand over the last picks again, and keep the greatest length",
     "no pick yet: go on, without a wait",
     "no length so far: go on, without a wait",
     "not a word for each board: read the boards again",
@@ -41,7 +41,7 @@ static const char *const remedies[17] = {
     "file: a link between boards that are not there",
     "file: a link that was so already",
     "file: something after its end",
-    "place damaged: open again, from pick 1",
+    "place damaged: open again, and all picks from pick 1",
 };
 
 static void say(uint32_t refusal, uint32_t wait) {

@@ -20,12 +20,12 @@ impl fmt::Display for Refusal {
             3 => "limit not 1 to 4096: correct the setup",
             4 => "area too short: lend as many words as the macro says",
             5 => "a forbidden bit: read the boards again",
-            6 => "a link outside the list: open again with a new list",
-            7 => "limit reached: open again, with a greater limit if need be",
+            6 => "a link outside the list: open again with a wider list, and all picks from pick 1",
+            7 => "limit reached: open again, hand over the last picks again, and keep the greatest length",
             8 => "no pick yet: go on, without a wait",
             9 => "no length so far: go on, without a wait",
             10 => "not a word for each board: read the boards again",
-            16 => "place damaged: open again, from pick 1",
+            16 => "place damaged: open again, and all picks from pick 1",
             _ => "not a refusal of these calls",
         };
         write!(f, "refusal {}: {}", self.0, remedy)

@@ -54,7 +54,7 @@
  *   4 round trip  the SMALLEST k such that in every window of k, for every board u and every other board v, the
  *                 earliest message from u is at v at or before the latest pick at which v can still send one that gets
  *                 to u (round-trip temporal diameter). So v answers in the very pick in which it hears; where a board
- *                 needs longer to answer, this length is too short.
+ *                 needs longer to answer, this length can be too short.
  *
  * Setting a wait. The pick at which you start counts as the first of the k. Whatever pick p you start at, once pick
  * p + k - 1 is done: every link of the list has been open (2), what any board sent at p is at every other (3), and its
@@ -88,23 +88,24 @@
  *   8, 9       no length, and `length` is 0: set no wait from it. Under measures 2 to 4 it may end with a later pick;
  *              under measure 1 a 9 stays, whatever comes.
  *   11 to 15   the file is wrong where the number says; nothing was read.
- *   16         the place was altered or never opened. Open anew, and hand over all picks again; or the last R of them as
- *              in the next paragraph, with the last length that you know.
+ *   16         the place was altered or never opened. Open anew and hand over all picks again; or, where you know the
+ *              length after some pick, hand over the last R picks up to that one and every pick since, as below.
  *
  * ---- Going on past the limit
  *
- * Below 4096 you may open anew with a greater limit and hand over all picks again. Or, at any limit: open anew, hand
- * over the last R picks of those taken once more (R below the limit), then the refused pick, and go on. When this
- * opening is full too, do so again, with the same R. Keep the last R picks, and the last length of each full opening.
- * While none of them was a 9:
+ * Below 4096 you may open anew with a greater limit and hand over all picks again. Or, at any limit: open anew with the
+ * same n, measure and list, hand over the last R picks of those taken once more (R below the limit), then the refused
+ * pick, and go on. When this opening is full too, do so again, with the same R. Keep the last R picks, and the last
+ * length of each full opening; in a new opening ask for the length once the refused pick is in.
  *   - under measures 2 to 4 let k be the greatest of those lengths and of the length now. Where k is AT MOST R + 1, it
  *     is the length of all picks together. Once it is greater, the length of all picks together is not known and may be
  *     greater than k, and no later opening mends that: set no wait from k. So choose an R well above your longest wait.
+ *     While the length now is a 9, and after a full opening that ended with a 9, it is not known either.
  *   - under measure 1 count on the smallest of those lengths, of the length now and of R + 1: every window of so many
- *     of all picks passes.
- * Both are proved. Handing over R picks in the time of one costs up to 4 * R compositions and 2 * R tests, and opening
- * writes all words that the area needs. Where that is too much for one pick, open the next walk, in an area of its own,
- * R picks before the limit, and hand each pick to both.
+ *     of all picks passes. With a 9 among them count on nothing.
+ * Both are proved. Handing over R + 1 picks in the time of one costs up to 4 * R compositions and 2 * R + 2 tests, and
+ * opening writes all words that the area needs. Where that is too much for one pick, open the next walk, in an area of
+ * its own, R picks before the limit, and hand each pick to both.
  *
  * ---- What a pick costs
  *
@@ -170,7 +171,7 @@ extern "C" {
 
 /*
  * A thread that calls needs this much stack to spare. Measured, not proved: nookmallow_pick takes the most, some 14 KiB
- * under measure 4 and up to 13 KiB under the others.
+ * under measure 4 and 11 KiB under the others, and where calls are bound lazily the linker takes some 3 KiB more once.
  */
 #define NOOKMALLOW_STACK_BYTES 24576u
 
@@ -293,7 +294,8 @@ uint32_t nookmallow_table(uint32_t n, const uint32_t *words, size_t words_len, u
  * links start shut and stay as set. The words of pick p go to `out` from word (p - 1) * n on; other words stay as they
  * are. The output must hold limit * n words, however many picks the file has: 32 * limit words are always enough.
  * Refused: 3 for the limit; then the first cause met going byte by byte, and within a command in this order: 11, 12, at
- * a 42 then 1, 4, at a 4F or 53 then 13, 14, at a 50 then 7 (beyond the limit); at last 15. No word is written then.
+ * a 42 then 1, 4, at a 4F or 53 then 13, 14, at a 50 then 7 (beyond the limit); at last 15. An empty file is 12. No word
+ * is written then.
  */
 nookmallow_reading nookmallow_read(const uint8_t *bytes, size_t bytes_len, uint32_t limit, uint32_t *out,
                                    size_t out_len);

@@ -40,8 +40,7 @@
 --
 -- MORE PICKS THAN WERE HANDED OVER
 --   a design that is repeated, of which enough picks were handed over: Longer.RepeatedDesign; in whole runs: RepeatedRuns; under measure 1: RepeatedCommon
---   going on past the limit, by opening anew and handing over the last picks again: Longer.GoingOn; walk after walk: GoingOnAndOn; under measure 1:
---       CommonOnAndOn
+--   going on past the limit, by opening anew, walk after walk, and handing over the last picks again: Longer.GoingOn; under measure 1: GoingOnCommon
 pub mod Condition1
 pub mod Condition2
 pub mod Condition3

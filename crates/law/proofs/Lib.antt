@@ -9,4 +9,5 @@ pub mod MaxWalk
 pub mod Walks
 pub mod Online
 pub mod Whole
+pub mod Longer
 pub mod Condition3Runs

@@ -5,15 +5,15 @@ use mathlib.Core.Bool.{Bool, true, false, _&&_, not, cond}
 use mathlib.Core.List.{List}
 use Prim.Native.Nat.{ℕ, zero, suc, _+_, _-_, _*_, _≤_}
 use native.Mathlib.Omega.{arith}
-use lib.Dec.{eqb, ltb, T, eqb→eq}
+use lib.Dec.{eqb, T, eqb→eq}
 use Rattle.model.specs.Recording.{pickAt}
 use Rattle.model.specs.Journey.{val, atMost}
 use Rattle.measures.specs.Kit.{Kit, turn01}
 use Rattle.place.specs.declared.Settings.{Settings}
 use Rattle.place.specs.declared.Place.{Place}
-use Rattle.place.specs.Places.{picksTaken, startMoved, boundaryMoved, charged, tested, Sound, settingsOf, fresh}
-use Rattle.steps.specs.Walk.{State, state, rebuilt, joined, extendedBy, extended, written, entered, windowed, judged, tried, cleared, minStep}
-use Rattle.steps.specs.Walk.{raisedBy, raised, again, climb, climbed, ended, maxStep, stepped, reported}
+use Rattle.place.specs.Places.{picksTaken, charged, Sound, settingsOf, fresh}
+use Rattle.steps.specs.Walk.{State, state, entered, tried, cleared, minStep}
+use Rattle.steps.specs.Walk.{again, climb, climbed, ended, maxStep, stepped, reported}
 use Rattle.law.specs.Ladders.{mOf, sOf, bOf, limitOf, WindowTables, holds, Zero, Law, Decides, Laddered, Holds, lastEntered, Framed}
 use Rattle.law.specs.Course.{walkFrom, Course, OfDocument, kitIn, listIn, PassesIn, FactsIn, tables, start, stateAt, Charge, CourseTold}
 use Rattle.law.specs.Course.{ToldClaim, PartsClaim}

@@ -90,7 +90,7 @@ tested p x = record {
 abbrev pub perLadder : ℕ
 perLadder = 4100
 
--- a pick charges less than this of each: it builds two ladders at most, and tests at every rise
+-- a pick charges less than this of each: it builds one ladder at most, and tests at every rise
 abbrev pub perPick : ℕ
 perPick = 4 * perLadder
 

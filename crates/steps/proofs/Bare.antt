@@ -7,7 +7,7 @@ use mathlib.Core.List.{List}
 use lib.ListN.{length, drop}
 use borrow.Author.Tests.{ne-eqb}
 use Rattle.model.specs.Journey.{val}
-use Rattle.measures.specs.Kit.{hops01, kit}
+use Rattle.measures.specs.Kit.{hops01}
 use Rattle.area.specs.Parts.{partSize}
 use Rattle.area.proofs.Laws.{kit-wide, own-wide}
 use Rattle.place.specs.declared.Settings.{Settings}

@@ -8,7 +8,7 @@ use mathlib.Core.List.{List}
 use lib.ListN.{length}
 use Rattle.model.specs.Journey.{val}
 use Rattle.model.proofs.Bits.{val-le}
-use Rattle.measures.specs.Kit.{Kit, hops01, kit}
+use Rattle.measures.specs.Kit.{Kit, hops01}
 use Rattle.area.specs.Parts.{partSize, Has, tableAt, composeAt, copyAt, ownAt}
 use Rattle.area.proofs.Laws.{has, own-wide, own-same, compose-copied}
 use Rattle.place.specs.declared.Settings.{Settings}

@@ -329,10 +329,10 @@ module _ (K : Kit) where
         let o = tried-grown K q in
         let n0 = n .taken in
         let n1 = n .start in
-        let n2 = n .reach in
+        let n2 = n .lowest in
         let o0 = o .taken in
         let o1 = o .start in
-        let o2 = o .reach in
+        let o2 = o .lowest in
         let f = raised-frame st rm top in
         let f0 = limit-of (f .settings) in
         let rmq = frame-room K st q _ f rm in
@@ -398,10 +398,10 @@ module _ (K : Kit) where
         let o = tried-grown K q in
         let n0 = n .taken in
         let n1 = n .start in
-        let n2 = n .reach in
+        let n2 = n .lowest in
         let o0 = o .taken in
         let o1 = o .start in
-        let o2 = o .reach in
+        let o2 = o .lowest in
         let f = first-frame k w st rm low high top size in
         let f0 = limit-of (f .settings) in
         let e : m ≡ r .place .window .taken .0 = omega arith in

@@ -1,5 +1,5 @@
 -- What a step within a pick does to the numbers of a place. Assumes nothing.
-use Prim.Native.Nat.{ℕ, _+_, _*_, _≤_, _<_, max}
+use Prim.Native.Nat.{ℕ, _+_, _-_, _*_, _≤_, _<_, max}
 use native.Mathlib.Nat.{le-refl}
 use native.Mathlib.Omega.{arith}
 use mathlib.Core.Path.{_≡_, refl, ap, _∙_}
@@ -15,15 +15,16 @@ use Rattle.steps.specs.Walk.{tried, raisedBy, raised, again}
 use Rattle.steps.specs.Fit.{Lends, Fit, Entry, Does}
 use Rattle.place.specs.Places.{perLadder}
 use Rattle.steps.proofs.Fit.{able-kept, limit-of, lends-kept, fit-at}
+use Rattle.model.specs.Journey.{val}
 use Rattle.model.proofs.Bits.{val-le}
 
--- What a step does to the numbers of a place: m picks are taken and the start rises by k; t tests are charged, and at most c compositions. Only parts
--- from max (s + 1, b + 2) on are free to be built anew, and that bound never falls.
+-- What a step does to the numbers of a place: m picks are taken and the start rises by k; t tests are charged, and at most c compositions. The lowest
+-- part that may yet be built anew, max (s + 1, b + 2), never falls.
 pub record Grown (p q : Place) (m k c t : ℕ) : Type 0 where
   pub settings : q .settings ≡ p .settings
   pub taken : q .window .taken .0 ≡ p .window .taken .0 + m
   pub start : q .window .start .0 ≡ p .window .start .0 + k
-  pub reach : max (p .window .start .0 + 1) (p .window .boundary .0 + 2) ≤ max (q .window .start .0 + 1) (q .window .boundary .0 + 2)
+  pub lowest : max (p .window .start .0 + 1) (p .window .boundary .0 + 2) ≤ max (q .window .start .0 + 1) (q .window .boundary .0 + 2)
   pub bound : p .window .boundary .0 ≤ p .window .taken .0 → q .window .boundary .0 ≤ q .window .taken .0
   pub comps : q .counts .compositions .0 ≤ p .counts .compositions .0 + c
   pub tests : q .counts .tests .0 ≡ p .counts .tests .0 + t
@@ -34,7 +35,7 @@ grown-none p = record {
   settings = refl;
   taken = omega arith;
   start = omega arith;
-  reach = le-refl (max (p .window .start .0 + 1) (p .window .boundary .0 + 2));
+  lowest = le-refl (max (p .window .start .0 + 1) (p .window .boundary .0 + 2));
   bound = λ x. x;
   comps = omega arith;
   tests = omega arith;
@@ -44,19 +45,19 @@ pub grown-on : {p q r : Place} {m k c t n i d u : ℕ} → Grown p q m k c t →
 grown-on g h =
     let gm = g .taken in
     let gs = g .start in
-    let gr = g .reach in
+    let gl = g .lowest in
     let gc = g .comps in
     let gt = g .tests in
     let hm = h .taken in
     let hs = h .start in
-    let hr = h .reach in
+    let hl = h .lowest in
     let hc = h .comps in
     let ht = h .tests in
     record {
       settings = h .settings ∙ g .settings;
       taken = omega arith;
       start = omega arith;
-      reach = omega arith;
+      lowest = omega arith;
       bound = λ x. h .bound (g .bound x);
       comps = omega arith;
       tests = omega arith;
@@ -73,7 +74,7 @@ grown-to g e h a b =
       settings = g .settings;
       taken = omega arith;
       start = omega arith;
-      reach = g .reach;
+      lowest = g .lowest;
       bound = g .bound;
       comps = omega arith;
       tests = omega arith;
@@ -85,7 +86,7 @@ grown-counted g h = record {
   settings = g .settings;
   taken = g .taken;
   start = g .start;
-  reach = g .reach;
+  lowest = g .lowest;
   bound = g .bound;
   comps = h;
   tests = g .tests;
@@ -114,57 +115,92 @@ fit-grown g s c t f =
       tests = omega arith;
     }
 
+-- ---- the moves of a place, one by one
+
+pub picks-grown : (p : Place) (m : ℕ) → Grown p (picksTaken p m) m 0 0 0
+unfolding picksTaken
+picks-grown p m = record {
+  settings = refl;
+  taken = refl;
+  start = omega arith;
+  lowest = omega arith;
+  bound = λ x. omega arith;
+  comps = omega arith;
+  tests = omega arith;
+}
+
+start-grown : (p : Place) (k : ℕ) → Grown p (startMoved p k) 0 k 0 0
+unfolding startMoved
+start-grown p k = record {
+  settings = refl;
+  taken = omega arith;
+  start = refl;
+  lowest = omega arith;
+  bound = λ x. x;
+  comps = omega arith;
+  tests = omega arith;
+}
+
+boundary-grown : (p : Place) → p .window .boundary .0 + 1 < p .window .start .0 → Grown p (boundaryMoved p) 0 0 0 0
+unfolding boundaryMoved
+boundary-grown p h = record {
+  settings = refl;
+  taken = omega arith;
+  start = omega arith;
+  lowest = omega arith;
+  bound = λ x. le-refl (p .window .taken .0);
+  comps = omega arith;
+  tests = omega arith;
+}
+
+charged-grown : (p : Place) (k c : ℕ) → k ≤ c → Grown p (charged p k) 0 0 c 0
+unfolding charged
+charged-grown p k c h = record {
+  settings = refl;
+  taken = omega arith;
+  start = omega arith;
+  lowest = omega arith;
+  bound = λ x. x;
+  comps = omega arith;
+  tests = omega arith;
+}
+
+tested-grown : (p : Place) (x : Bool) → Grown p (tested p x) 0 0 0 1
+unfolding tested
+tested-grown p x = record {
+  settings = refl;
+  taken = omega arith;
+  start = omega arith;
+  lowest = omega arith;
+  bound = λ x. x;
+  comps = omega arith;
+  tests = refl;
+}
+
 -- ---- the steps
 
 module _ (K : Kit) (st : State) where
   rebuilt-grown : st .place .window .boundary .0 + 1 < st .place .window .start .0
       → Grown (st .place) (rebuilt K st .place) 0 0 (st .place .window .taken .0) 0
-  unfolding rebuilt charged boundaryMoved
-  rebuilt-grown h = record {
-    settings = refl;
-    taken = omega arith;
-    start = omega arith;
-    reach = omega arith;
-    bound = λ x. le-refl (st .place .window .taken .0);
-    comps = omega arith;
-    tests = omega arith;
-  }
+  unfolding rebuilt
+  rebuilt-grown h =
+      let m = st .place .window .taken .0 in
+      let s = st .place .window .start .0 in
+      grown-to (grown-on (boundary-grown (st .place) h) (charged-grown (boundaryMoved (st .place)) (m - s) m (omega arith))) refl refl (omega arith) refl
 
   joined-grown : Grown (st .place) (joined K st .place) 0 0 1 0
-  unfolding joined charged
-  joined-grown = record {
-    settings = refl;
-    taken = omega arith;
-    start = omega arith;
-    reach = omega arith;
-    bound = λ x. x;
-    comps = omega (arith, val-le (more (st .place)));
-    tests = omega arith;
-  }
+  unfolding joined
+  joined-grown = charged-grown (st .place) (val (more (st .place))) 1 (val-le (more (st .place)))
 
   pub windowed-grown : Grown (st .place) (windowed K st .place) 0 0 1 0
-  unfolding windowed charged
-  windowed-grown = record {
-    settings = refl;
-    taken = omega arith;
-    start = omega arith;
-    reach = omega arith;
-    bound = λ x. x;
-    comps = omega (arith, val-le (onLeft (st .place) && onRight (st .place)));
-    tests = omega arith;
-  }
+  unfolding windowed
+  windowed-grown =
+      let both = onLeft (st .place) && onRight (st .place) in
+      charged-grown (st .place) (val both) 1 (val-le both)
 
   judged-grown : Grown (st .place) (judged K st .place) 0 0 0 1
-  unfolding judged tested
-  judged-grown = record {
-    settings = refl;
-    taken = omega arith;
-    start = omega arith;
-    reach = omega arith;
-    bound = λ x. x;
-    comps = omega arith;
-    tests = omega arith;
-  }
+  unfolding judged
+  judged-grown = tested-grown (st .place) _
 
   -- a test leaves the boundary where it is
   pub tried-bound : tried K st .place .window .boundary .0 ≡ st .place .window .boundary .0
@@ -201,19 +237,12 @@ tried-grown K st = grown-on (windowed-grown K st) (judged-grown K (windowed K st
 -- ---- a new pick
 
 pub entered-grown : (K : Kit) (k : ℕ) (w : List ℕ) (st : State) → Grown (st .place) (entered K k w st .place) 1 k (st .place .window .taken .0 + 2) 0
-unfolding entered written startMoved picksTaken
-entered-grown K k w st = grown-to (grown-on taken (extended-grown K (written K k w st))) (omega arith) (omega arith) (omega arith) (omega arith)
-  where
-    taken : Grown (st .place) (startMoved (picksTaken (st .place) 1) k) 1 k 0 0
-    taken = record {
-      settings = refl;
-      taken = refl;
-      start = refl;
-      reach = omega arith;
-      bound = λ x. omega arith;
-      comps = omega arith;
-      tests = omega arith;
-    }
+unfolding entered written
+entered-grown K k w st =
+    let p = st .place in
+    let g = grown-on (picks-grown p 1) (start-grown (picksTaken p 1) k) in
+    let m = g .taken in
+    grown-to (grown-on g (extended-grown K (written K k w st))) (omega arith) (omega arith) (omega arith) refl
 
 pub entered-near : (K : Kit) (k : ℕ) (w : List ℕ) (st : State) → st .place .window .start .0 + k ≤ st .place .window .taken .0 + 1
     → entered K k w st .place .window .start .0 ≤ entered K k w st .place .window .boundary .0 + 1
@@ -223,26 +252,19 @@ entered-near K k w st h = extended-near K (written K k w st) h
 -- ---- a rise
 
 pub raised-grown : (K : Kit) (st : State) → Grown (st .place) (raised K st .place) 0 1 (st .place .window .taken .0) 0
-unfolding raised raisedBy startMoved
+unfolding raised raisedBy
 raised-grown K st = go (far (startMoved (st .place) 1)) refl
   where
     risen : Grown (st .place) (startMoved (st .place) 1) 0 1 0 0
-    risen = record {
-      settings = refl;
-      taken = omega arith;
-      start = refl;
-      reach = omega arith;
-      bound = λ x. x;
-      comps = omega arith;
-      tests = omega arith;
-    }
+    risen = start-grown (st .place) 1
 
     go : (x : Bool) → far (startMoved (st .place) 1) ≡ x
         → Grown (st .place) (raisedBy K x (state (startMoved (st .place) 1) (st .area)) .place) 0 1 (st .place .window .taken .0) 0
     go true e =
-        let f = ltb-true (st .place .window .boundary .0 + 1) (st .place .window .start .0 + 1) e in
-        grown-to (grown-on risen (rebuilt-grown K (state (startMoved (st .place) 1) (st .area)) f)) (omega arith) (omega arith) (omega arith) (omega arith)
-    go false e = grown-to risen refl refl (omega arith) (omega arith)
+        let f = ltb-true (startMoved (st .place) 1 .window .boundary .0 + 1) (startMoved (st .place) 1 .window .start .0) e in
+        let m = risen .taken in
+        grown-to (grown-on risen (rebuilt-grown K (state (startMoved (st .place) 1) (st .area)) f)) refl refl (omega arith) refl
+    go false e = grown-to risen refl refl (omega arith) refl
 
 pub again-grown : (K : Kit) (st : State) → Grown (st .place) (again K st .place) 0 1 (st .place .window .taken .0 + 1) 1
 unfolding again

@@ -18,7 +18,7 @@ use Rattle.steps.specs.Walk.{State, state, kitOf, entered, tried, cleare
 use Rattle.steps.specs.Fit.{rise, Takes, Ready}
 use Rattle.steps.proofs.Fit.{able-kept}
 use Rattle.model.proofs.Bits.{val-le}
-use Rattle.steps.proofs.Grown.{Grown, grown-on, grown-to, grown-counted, entered-grown, entered-near, tried-grown, tried-bound}
+use Rattle.steps.proofs.Grown.{Grown, grown-on, grown-to, picks-grown, grown-counted, entered-grown, entered-near, tried-grown, tried-bound}
 use Rattle.steps.proofs.Enough.{Enough, entered-enough}
 use Rattle.steps.proofs.Rises.{climbed-along}
 use Rattle.area.proofs.Laws.{kit-wide, own-wide}
@@ -73,7 +73,7 @@ sound-takes s room h e =
 
 -- ---- what `step` leaves
 
--- A pick is taken, and the start rises by some number; where both were so before, it is within b + 1 and within the picks taken. At most one test is
+-- A pick is taken, and the start rises by some number; it is then within b + 1 and within the picks taken. At most one test is
 -- made for each pick from the old start up to the new pick, and one composition less than that; under every measure but 1 exactly one test.
 pub record Stepped (p q : Place) : Type 0 where
   pub by : ℕ
@@ -157,15 +157,7 @@ module _ (p : Place) (a w : List ℕ) {words : ℕ} (r : Ready p words) where
         (λ t. record {
           by = 0;
           tests = 0;
-          grown = record {
-            settings = refl;
-            taken = refl;
-            start = omega arith;
-            reach = omega arith;
-            bound = λ x. omega arith;
-            comps = omega arith;
-            tests = omega arith;
-          };
+          grown = grown-to (picks-grown p 1) refl refl (omega arith) refl;
           near = n;
           inside = omega arith;
           few = omega arith;

@@ -7,9 +7,9 @@ use native.Mathlib.Omega.{arith}
 use mathlib.Core.List.{List}
 use lib.Dec.{T, eqb, eqb→eq, leb, leb→le, le→leb, ltb, ltb→lt, lt→ltb}
 use lib.ListN.{length, take, drop}
-use Rattle.model.specs.Causes.{between, NoneHolds}
+use Rattle.model.specs.Causes.{NoneHolds}
 use Rattle.model.proofs.Causes.{none-holds, holds-by, not-of-true, between-says, in-range}
-use Rattle.model.proofs.Logic.{tr, T→≡, F→≡, eq-refl, and-l, and-r, and-both}
+use Rattle.model.proofs.Logic.{tr, T→≡, F→≡, eq-refl}
 use Rattle.checks.specs.Checks.{clean, listed}
 use Rattle.checks.specs.Lent.{cleanPicks}
 use Rattle.measures.specs.Kit.{kit}
