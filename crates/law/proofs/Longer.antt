@@ -1,9 +1,9 @@
 -- Windows of more picks, and footprints with the same links: what passes passes. For every limit and turn-round, but for `passes-up`, which is document
 -- 01's. Assumes nothing.
-use mathlib.Core.Path.{_≡_, refl}
+use mathlib.Core.Path.{refl}
 use mathlib.Core.Logic.{_↔_, Iff·symm, Iff·trans}
 use mathlib.Core.List.{List, _++_}
-use Prim.Native.Nat.{ℕ, zero, suc, _+_, _≤_}
+use Prim.Native.Nat.{ℕ, zero, suc, _≤_}
 use native.Mathlib.Omega.{arith}
 use lib.Dec.{T}
 use lib.ListN.{length}
