@@ -131,7 +131,7 @@ void test_altered(uint32_t share) {
     for (uint32_t i = 0; i < 60000 / share; i++) run(2 + below(5), 1 + i % 4, 1 + below(12), 1 + below(4));
     for (uint32_t i = 0; i < 4000 / share; i++) run(7 + below(26), 1 + i % 4, 1 + below(6), 1 + below(3));
     for (uint32_t i = 0; i < 4000 / share; i++) run(2 + below(2), 1 + i % 4, 20 + below(60), 12);
-    /* Whatever an area held, a whole run answers the same. */
+    /* Whatever an area held, a whole run answers the same, and so does a decision. */
     for (uint32_t i = 0; i < 4000 / share; i++) {
         uint32_t n = 2 + below(5), measure = 1 + i % 4, m = 1 + below(12), words[12 * 6] = {0};
         size_t need = NOOKMALLOW_AREA_WORDS(n, measure, m);
@@ -140,6 +140,10 @@ void test_altered(uint32_t share) {
         nookmallow_answer r = call_whole(n, measure, words, (size_t)m * n, area, need);
         nookmallow_answer again = call_whole(n, measure, words, (size_t)m * n, area, need);
         CHECK(memcmp(&r, &again, sizeof r) == 0);
+        for (size_t j = 0; j < need; j++) area[j] = draw();
+        nookmallow_decision d = call_decide(n, measure, words, (size_t)m * n, 1 + i % m, area, need);
+        nookmallow_decision later = call_decide(n, measure, words, (size_t)m * n, 1 + i % m, area, need);
+        CHECK(d.refusal == 0 && memcmp(&d, &later, sizeof d) == 0);
     }
     /* Any words at all as arguments of the calls that check them. */
     for (uint32_t i = 0; i < 20000 / share; i++) {
@@ -149,6 +153,7 @@ void test_altered(uint32_t share) {
         for (uint32_t k = 0; k < 80; k++) words[k] = below(8) ? below(4) : draw(), out[k] = draw();
         call_open(n, measure, limit, words, count, out, room);
         call_whole(n, measure, words, count, out, room);
+        call_decide(n, measure, words, count, other_word(below(12)), out, room);
         call_table(n, words, count, out, room);
     }
     printf("altered: %lu picks taken, %lu refused\n", taken, refused);

@@ -78,7 +78,7 @@ void bare_pick(bare *b, const uint32_t *words) {
         b->pass[s][e] = (unsigned char)window_passes(b->n, b->measure, b->list, b->words + s * b->n, e - s + 1);
 }
 
-static int all_pass(const bare *b, uint32_t k) {
+int bare_decides(const bare *b, uint32_t k) {
     for (uint32_t s = 0; s + k <= b->m; s++)
         if (!b->pass[s][s + k - 1]) return 0;
     return 1;
@@ -87,7 +87,7 @@ static int all_pass(const bare *b, uint32_t k) {
 uint32_t bare_length(const bare *b) {
     for (uint32_t i = 1; i <= b->m; i++) {
         uint32_t k = b->measure == 1 ? b->m + 1 - i : i;
-        if (all_pass(b, k)) return k;
+        if (bare_decides(b, k)) return k;
     }
     return 0;
 }

@@ -25,6 +25,9 @@ uint32_t bare_reached(uint32_t u, const uint32_t *words, uint32_t n, size_t m);
 void bare_open(bare *b, uint32_t n, uint32_t measure, const uint32_t *list);
 void bare_pick(bare *b, const uint32_t *words);
 
+/* Whether every window of k of the picks so far passes. */
+int bare_decides(const bare *b, uint32_t k);
+
 /* The length of the picks so far, 0 where there is none. */
 uint32_t bare_length(const bare *b);
 

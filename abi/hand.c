@@ -37,6 +37,43 @@ static void ten_cases(void) {
     CHECK(call_table(2, A, 8, out, 3) == 0 && out[0] == 2 && out[1] == 1 && out[2] == 7);
 }
 
+/* Yes or no of a window length, with the two counts. */
+static void decisions(void) {
+    static const struct {
+        const uint32_t *words;
+        size_t count;
+        uint32_t n, measure, k, yes, compositions, tests;
+    } cases[] = {{A, 8, 2, 3, 1, 0, 0, 1}, {A, 8, 2, 3, 2, 1, 3, 3}, {A, 8, 2, 3, 3, 1, 4, 2}, {A, 8, 2, 3, 4, 1, 3, 1},
+                 {A, 8, 2, 2, 1, 0, 3, 1}, {A, 8, 2, 2, 2, 1, 6, 3}, {A, 8, 2, 4, 2, 0, 1, 1}, {A, 8, 2, 4, 3, 1, 4, 2},
+                 {A, 8, 2, 1, 1, 0, 0, 1}, {B, 6, 2, 1, 1, 1, 0, 3}, {B, 6, 2, 1, 3, 1, 2, 1}, {C, 9, 3, 1, 1, 1, 0, 3},
+                 {C, 9, 3, 1, 2, 0, 2, 2}, {D, 4, 2, 3, 1, 0, 0, 2}, {D, 4, 2, 3, 2, 1, 1, 1}, {F, 2, 2, 2, 1, 1, 0, 1},
+                 {F, 2, 2, 3, 1, 0, 0, 1}};
+    for (size_t i = 0; i < sizeof cases / sizeof *cases; i++) {
+        uint32_t n = cases[i].n, measure = cases[i].measure;
+        size_t need = NOOKMALLOW_AREA_WORDS(n, measure, cases[i].count / n);
+        uint32_t *area = words_of(need);
+        nookmallow_decision d = call_decide(n, measure, cases[i].words, cases[i].count, cases[i].k, area, need);
+        CHECK(d.refusal == 0 && d.yes == cases[i].yes);
+        CHECK(d.compositions == cases[i].compositions && d.tests == cases[i].tests);
+        free(area);
+    }
+}
+
+/* Both ends of k: 1 and m are answered, 0 and m + 1 are 17, and so is the largest number. */
+static void ends_of_k(const uint32_t *words, uint32_t measure, uint32_t m, uint32_t *area) {
+    size_t need = NOOKMALLOW_AREA_WORDS(2, measure, m);
+    const uint32_t bad[] = {0, m + 1, ~0u}, good[] = {1, m};
+    for (int i = 0; i < 3; i++) {
+        CHECK(call_decide(2, measure, words, 2 * m, bad[i], area, need).refusal == 17);
+        CHECK(call_decide(2, measure, words, 2 * m, bad[i], area, need - 1).refusal == 4);
+    }
+    for (int i = 0; i < 2; i++) {
+        nookmallow_decision d = call_decide(2, measure, words, 2 * m, good[i], area, need + 1);
+        CHECK(d.refusal == 0 && d.yes == 1 && d.tests == m - good[i] + 1);
+        CHECK(call_decide(2, measure, words, 2 * m, good[i], area, need - 1).refusal == 4);
+    }
+}
+
 /* Both ends of each range, and an area exact to the word. */
 static void edges(void) {
     for (uint32_t measure = 1; measure <= 4; measure++) {
@@ -70,6 +107,8 @@ static void edges(void) {
         CHECK(call_whole(2, measure, words, 2 * 4096, area, need).length == (measure == 1 ? 4096 : 1));
         CHECK(call_whole(2, measure, words, 2 * 4096, area, need - 1).refusal == 4);
         CHECK(call_whole(2, measure, words, 2 * 4097, area, NOOKMALLOW_AREA_WORDS(2, measure, 4097)).refusal == 3);
+        CHECK(call_decide(2, measure, words, 2 * 4097, 1, area, NOOKMALLOW_AREA_WORDS(2, measure, 4097)).refusal == 3);
+        for (uint32_t m = 1; m <= 4096; m = m < 3 ? m + 1 : m == 3 ? 4096 : 4097) ends_of_k(words, measure, m, area);
     }
     CHECK(call_table(2, words, 2 * 4096, out, 2) == 0 && call_table(2, words, 2 * 4097, out, 2) == 3);
     free(words);
@@ -134,6 +173,7 @@ static void every_bit(uint32_t n) {
             nookmallow_handed h = call_open(n, 1, 1, NULL, 0, area, need);
             CHECK(call_pick(h.place, area, need, words, n).refusal == want);
             CHECK(call_whole(n, 2, words, n, area, need).refusal == want);
+            CHECK(call_decide(n, 2, words, n, 1, area, need).refusal == want);
             CHECK(call_table(n, words, n, out, n) == want);
         }
         words[u] = 0;
@@ -142,6 +182,7 @@ static void every_bit(uint32_t n) {
 
 void test_hand(uint32_t share) {
     ten_cases();
+    decisions();
     edges();
     sixteen();
     for (uint32_t n = 2; n <= 32; n++)

@@ -107,6 +107,23 @@ static void whole(void) {
     CHECK(call_whole(2, 3, NULL, 0, NULL, 0).refusal == 8);
 }
 
+static void decision(void) {
+    static const uint32_t order[] = {1, 2, 10, 8, 3, 4, 5, 17};
+    static uint32_t words[2 * 4097 + 1], area[NOOKMALLOW_AREA_WORDS(2, 4, 4097)];
+    for (unsigned set = 0; set < 256; set++) {
+        for (int other = 0; other < 4; other++) {
+            size_t count = whole_words(words, set & 4, set & 8, set & 16, set & 64, 0);
+            uint32_t n = set & 1 ? (other & 1 ? 33 : 1) : 2, measure = set & 2 ? (other & 1 ? 5 : 0) : 1 + (uint32_t)other;
+            uint32_t m = (uint32_t)count / 2, inside[4] = {1, m, 2, m - 1}, outside[4] = {0, m + 1, 0x80000001u, ~0u};
+            uint32_t k = set & 128 ? outside[other] : inside[other];
+            size_t need = NOOKMALLOW_AREA_WORDS(2, measure, count / 2);
+            nookmallow_decision d = call_decide(n, measure, words, count, k, area, set & 32 ? need - 1 : need);
+            CHECK(d.refusal == first_of(order, 8, set));
+            CHECK(d.yes == (set ? 0u : 1u) && d.tests == (set ? 0u : m - k + 1));
+        }
+    }
+}
+
 static void table(void) {
     static const uint32_t order[] = {1, 10, 8, 3, 4, 5};
     static uint32_t words[2 * 4097 + 1];
@@ -126,5 +143,6 @@ void test_orders(void) {
     picking();
     measuring();
     whole();
+    decision();
     table();
 }

@@ -9,8 +9,8 @@
 #include <stdlib.h>
 #include <string.h>
 
-enum { STACK = 1 << 20, PAINT = 0xA5, PICKS = 8, KINDS_OF_CALL = 6 };
-static const char *const names[KINDS_OF_CALL] = {"none", "open", "pick", "whole", "table", "read"};
+enum { STACK = 1 << 20, PAINT = 0xA5, PICKS = 8, KINDS_OF_CALL = 7 };
+static const char *const names[KINDS_OF_CALL] = {"none", "open", "pick", "whole", "decide", "table", "read"};
 static struct {
     int call;
     uint32_t measure, words[32 * PICKS], out[32 * PICKS], *area;
@@ -28,8 +28,9 @@ static void *work(void *unused) {
         nookmallow_length(job.place);
         break;
     case 3: nookmallow_whole(32, job.measure, job.words, 32 * PICKS, job.area, need); break;
-    case 4: nookmallow_table(32, job.words, 32 * PICKS, job.out, 32); break;
-    case 5: nookmallow_read(file, sizeof file, PICKS, job.out, 32 * PICKS); break;
+    case 4: nookmallow_decide(32, job.measure, job.words, 32 * PICKS, 2, job.area, need); break;
+    case 5: nookmallow_table(32, job.words, 32 * PICKS, job.out, 32); break;
+    case 6: nookmallow_read(file, sizeof file, PICKS, job.out, 32 * PICKS); break;
     }
     return unused;
 }

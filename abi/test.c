@@ -115,16 +115,16 @@ static uint32_t *copy_of(const uint32_t *from, size_t count) {
 
 /* ---- what each call may answer, and has answered */
 
-enum { OPEN, PICK, LENGTH, WHOLE, TABLE, READ, CALLS };
-static const char *const names[CALLS] = {"open", "pick", "length", "whole", "table", "read"};
+enum { OPEN, PICK, LENGTH, WHOLE, DECIDE, TABLE, READ, CALLS, LAST_REFUSAL = 17 };
+static const char *const names[CALLS] = {"open", "pick", "length", "whole", "decide", "table", "read"};
 static const unsigned char may[CALLS][12] = {
     {0, 1, 2, 3, 10, 5, 4, 99}, {0, 16, 7, 10, 5, 4, 6, 99}, {0, 16, 8, 9, 99}, {0, 1, 2, 10, 8, 3, 4, 5, 9, 99},
-    {0, 1, 10, 8, 3, 4, 5, 99}, {0, 3, 11, 12, 1, 4, 13, 14, 7, 15, 99}};
-static unsigned long seen[CALLS][17];
+    {0, 1, 2, 10, 8, 3, 4, 5, 17, 99}, {0, 1, 10, 8, 3, 4, 5, 99}, {0, 3, 11, 12, 1, 4, 13, 14, 7, 15, 99}};
+static unsigned long seen[CALLS][LAST_REFUSAL + 1];
 
 static void saw(int call, uint32_t refusal) {
     calls_made++;
-    if (refusal > 16) differ("a refusal above 16");
+    if (refusal > LAST_REFUSAL) differ("a refusal above the last");
     else seen[call][refusal]++;
 }
 
@@ -132,7 +132,7 @@ static void saw(int call, uint32_t refusal) {
 static void check_seen(void) {
     for (int c = 0; c < CALLS; c++) {
         printf("%-6s", names[c]);
-        for (unsigned r = 0; r <= 16; r++) {
+        for (unsigned r = 0; r <= LAST_REFUSAL; r++) {
             int listed = 0;
             for (int i = 0; may[c][i] != 99; i++) listed |= may[c][i] == r;
             if (listed) printf(" %u:%lu", r, seen[c][r]);
@@ -207,6 +207,23 @@ nookmallow_answer call_whole(uint32_t n, uint32_t measure, const uint32_t *words
     }
     free(want);
     return r;
+}
+
+nookmallow_decision call_decide(uint32_t n, uint32_t measure, const uint32_t *words, size_t words_len, uint32_t k,
+                                uint32_t *area, size_t area_len) {
+    uint32_t *want = copy_of(area, area_len);
+    lent a = lend(area, area_len), w = lend(words, words_len);
+    nookmallow_decision e = walk_decide(n, measure, words, words_len, k, want, area_len);
+    nookmallow_decision d = nookmallow_decide(n, measure, w.words, w.count, k, a.words, a.count);
+    int good = settle("area", &a, want, area) & settle("words", &w, words, NULL);
+    good &= same_words("answer", (uint32_t *)&d, (uint32_t *)&e, sizeof d / 4);
+    saw(DECIDE, d.refusal);
+    if (!good && differ("decide")) {
+        printf("  n %lu measure %lu k %lu area %zu\n", (unsigned long)n, (unsigned long)measure, (unsigned long)k, area_len);
+        print_words("words", words, words_len);
+    }
+    free(want);
+    return d;
 }
 
 uint32_t call_table(uint32_t n, const uint32_t *words, size_t words_len, uint32_t *out, size_t out_len) {

@@ -26,6 +26,8 @@ nookmallow_handed call_pick(nookmallow_place p, uint32_t *area, size_t area_len,
 nookmallow_measured call_length(nookmallow_place p);
 nookmallow_answer call_whole(uint32_t n, uint32_t measure, const uint32_t *words, size_t words_len, uint32_t *area,
                              size_t area_len);
+nookmallow_decision call_decide(uint32_t n, uint32_t measure, const uint32_t *words, size_t words_len, uint32_t k,
+                                uint32_t *area, size_t area_len);
 uint32_t call_table(uint32_t n, const uint32_t *words, size_t words_len, uint32_t *out, size_t out_len);
 nookmallow_reading call_read(const uint8_t *bytes, size_t bytes_len, uint32_t limit, uint32_t *out, size_t out_len);
 

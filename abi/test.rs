@@ -3,7 +3,7 @@
 #[path = "../include/nookmallow.rs"]
 mod nookmallow;
 
-use nookmallow::{area_words, length, open, pick, read, table, whole, Answer, Handed, Measured, Place, Reading};
+use nookmallow::{area_words, decide, length, open, pick, read, table, whole, Answer, Decision, Handed, Measured, Place, Reading};
 use std::mem::{align_of, offset_of, size_of};
 
 // ---- the table
@@ -38,6 +38,8 @@ fn layout() {
         offset_of!(Answer, compositions), offset_of!(Answer, tests)]);
     line("measured", &[size_of::<Measured>(), align_of::<Measured>(), offset_of!(Measured, refusal), offset_of!(Measured, length),
         offset_of!(Measured, compositions), offset_of!(Measured, tests), offset_of!(Measured, place)]);
+    line("decision", &[size_of::<Decision>(), align_of::<Decision>(), offset_of!(Decision, refusal), offset_of!(Decision, yes),
+        offset_of!(Decision, compositions), offset_of!(Decision, tests)]);
     line("reading", &[size_of::<Reading>(), align_of::<Reading>(), offset_of!(Reading, refusal), offset_of!(Reading, boards),
         offset_of!(Reading, picks)]);
     println!("version {}", nookmallow::version());
@@ -97,6 +99,10 @@ fn one_round(g: &mut Draws) {
     let count = if g.below(8) != 0 { n * g.below(7) } else { g.below(6 * n + 1) } as usize;
     let a = whole(n, measure, &words[..count], &mut area);
     println!("whole {} {} {} {} area {}", a.refusal, a.length, a.compositions, a.tests, sum_of(&area));
+    area.iter_mut().for_each(|w| *w = g.draw());
+    let window = g.below(8);
+    let y = decide(n, measure, &words[..count], window, &mut area);
+    println!("decide {} {} {} {} area {}", y.refusal, y.yes, y.compositions, y.tests, sum_of(&area));
     let mut out: Vec<u32> = (0..40).map(|_| g.draw()).collect();
     let room = g.below(8) as usize;
     let refusal = table(n, &words[..boards * (count / boards)], &mut out[..room]);
@@ -160,6 +166,15 @@ fn each_call() {
     assert_eq!(q, Place { taken: 2, passed: 1, compositions: 1, tests: 2, ..p });
     assert_eq!(length(q), Measured { refusal: 0, length: 2, compositions: 1, tests: 2, place: q });
     assert_eq!(pick(q, &mut area, &[0, 1]), Handed { refusal: 7, place: q });
+    let turns = [2, 0, 0, 1, 2, 0];
+    let mut lent = [7; 15];
+    assert_eq!(decide(2, 3, &turns, 0, &mut lent), Decision { refusal: 17, yes: 0, compositions: 0, tests: 0 });
+    assert_eq!(decide(2, 3, &turns, 4, &mut lent), Decision { refusal: 17, yes: 0, compositions: 0, tests: 0 });
+    assert_eq!(decide(2, 3, &turns, 2, &mut lent[..13]), Decision { refusal: 4, yes: 0, compositions: 0, tests: 0 });
+    assert_eq!(lent, [7; 15]);
+    assert_eq!(decide(2, 3, &turns, 2, &mut lent), Decision { refusal: 0, yes: 1, compositions: 2, tests: 2 });
+    assert_eq!(lent, [0, 0, 0, 0, 0, 0, 0, 0, 0, 0, 0, 0, 0, 0, 7]);
+    assert_eq!(decide(2, 3, &turns, 1, &mut lent[..14]), Decision { refusal: 0, yes: 0, compositions: 0, tests: 1 });
     let file = [0x42, 2, 0x4F, 0, 1, 0x50, 0x45];
     let mut out = [7; 5];
     assert_eq!(read(&file, 2, &mut out), Reading { refusal: 0, boards: 2, picks: 1 });

@@ -34,6 +34,11 @@ static void layout(void) {
     AT(nookmallow_measured, compositions);
     AT(nookmallow_measured, tests);
     AT(nookmallow_measured, place);
+    printf("\ndecision %zu %zu", sizeof(nookmallow_decision), ALIGN(nookmallow_decision));
+    AT(nookmallow_decision, refusal);
+    AT(nookmallow_decision, yes);
+    AT(nookmallow_decision, compositions);
+    AT(nookmallow_decision, tests);
     printf("\nreading %zu %zu", sizeof(nookmallow_reading), ALIGN(nookmallow_reading));
     AT(nookmallow_reading, refusal);
     AT(nookmallow_reading, boards);
@@ -97,6 +102,11 @@ static void one_round(void) {
     nookmallow_answer a = nookmallow_whole(n, measure, words, count, area, area_len);
     printf("whole %lu %lu %lu %lu area %lu\n", (unsigned long)a.refusal, (unsigned long)a.length,
            (unsigned long)a.compositions, (unsigned long)a.tests, sum_of(area, area_len));
+    for (size_t i = 0; i < area_len; i++) area[i] = draw();
+    uint32_t window = below(8);
+    nookmallow_decision y = nookmallow_decide(n, measure, words, count, window, area, area_len);
+    printf("decide %lu %lu %lu %lu area %lu\n", (unsigned long)y.refusal, (unsigned long)y.yes,
+           (unsigned long)y.compositions, (unsigned long)y.tests, sum_of(area, area_len));
     for (uint32_t i = 0; i < 40; i++) out[i] = draw();
     uint32_t room = below(8);
     uint32_t refusal = nookmallow_table(n, words, (size_t)n * (count / n), out, room);

@@ -1,13 +1,14 @@
 /*
  * Places and areas as the calls left them: every length after every pick against the bare definitions, with stops and
- * starts, refused picks in between, and the whole run and the table of reach at the end.
+ * starts, refused picks in between, and at the end the whole run, the decision for every window length and the table of
+ * reach.
  */
 #include "test.h"
 #include <stdio.h>
 #include <stdlib.h>
 #include <string.h>
 
-static unsigned long answers[5], nines[5];
+static unsigned long answers[5], nines[5], decided[5][2];
 static uint32_t longest[5];
 
 /* A pick that is refused for its words: of the wrong number, with a forbidden bit, or outside the list. */
@@ -42,6 +43,37 @@ static void check_figures(const bare *b, uint32_t refusal, uint32_t length, uint
     if (length > longest[b->measure]) longest[b->measure] = length;
 }
 
+/*
+ * Every window length of a recording: yes where all windows of it pass, by the definition and by the length; counts
+ * within their bounds; an area of any words, and one of words that were never set.
+ */
+static void decisions_too(const bare *b, const uint32_t *words, size_t room) {
+    uint32_t m = b->m, length = bare_length(b), list = b->measure == 2 ? m - 1 : 0;
+    size_t count = (size_t)m * b->n, need = NOOKMALLOW_AREA_WORDS(b->n, b->measure, m);
+    uint32_t *area = words_of(need + room), *unset = malloc(need * sizeof *unset);
+    if (!unset) abort();
+    for (uint32_t k = 1; k <= m; k++) {
+        uint32_t yes = (uint32_t)bare_decides(b, k);
+        nookmallow_decision d = call_decide(b->n, b->measure, words, count, k, area, need + room);
+        if ((d.refusal || d.yes != yes) && differ("a decision is not that of the definition"))
+            printf("  n %lu measure %lu picks %lu k %lu\n", (unsigned long)b->n, (unsigned long)b->measure, (unsigned long)m,
+                   (unsigned long)k);
+        CHECK(d.yes == (b->measure == 1 ? k <= length : length != 0 && length <= k));
+        CHECK(d.compositions <= 3 * (m - 1) + list && d.tests >= 1 && d.tests <= m - k + 1);
+        CHECK(d.tests == m - k + 1 || !d.yes);
+        for (size_t i = 0; i < need; i++) area[i] = draw();
+        decided[b->measure][d.yes == 1]++;
+    }
+    CHECK(call_decide(b->n, b->measure, words, count, 1, area, need - 1).refusal == 4);
+    CHECK(call_decide(b->n, b->measure, words, count, below(2) ? 0 : m + 1, area, need + room).refusal == 17);
+    nookmallow_decision once = call_decide(b->n, b->measure, words, count, m, area, need);
+    nookmallow_decision again = nookmallow_decide(b->n, b->measure, words, count, m, unset, need);
+    CHECK(memcmp(&once, &again, sizeof once) == 0);
+    for (size_t i = 0; i < need; i++) CHECK(unset[i] == 0);
+    free(area);
+    free(unset);
+}
+
 static void whole_too(const bare *b, const uint32_t *words) {
     static bare joined;
     uint32_t list[32] = {0}, out[34] = {0}, room = below(3);
@@ -60,6 +92,7 @@ static void whole_too(const bare *b, const uint32_t *words) {
     CHECK(memcmp(&r, &again, sizeof r) == 0);
     for (size_t i = 0; i < need; i++) CHECK(area[i] == 0);
     free(area);
+    decisions_too(&joined, words, room);
     CHECK(call_table(b->n, words, (size_t)b->m * b->n, out, b->n + room) == 0);
 }
 
@@ -117,9 +150,10 @@ void test_true(uint32_t share) {
     for (uint32_t i = 0; i < 160 / share; i++) run(i % 5 ? 13 + below(20) : 32, 1 + i % 4, 10);
     for (uint32_t i = 0; i < 60 / share; i++) run(2 + below(3), 1 + i % 4, BARE_PICKS);
     for (uint32_t m = 1; m <= 4; m++) {
-        printf("measure %lu: %lu lengths, longest %lu; %lu without a length\n", (unsigned long)m, answers[m],
-               (unsigned long)longest[m], nines[m]);
+        printf("measure %lu: %lu lengths, longest %lu; %lu without a length; %lu yes, %lu no\n", (unsigned long)m,
+               answers[m], (unsigned long)longest[m], nines[m], decided[m][1], decided[m][0]);
         if (share == 1) CHECK(answers[m] > 1000 && nines[m] > 1000 && longest[m] > 8);
+        if (share == 1) CHECK(decided[m][0] > 1000 && decided[m][1] > 1000);
     }
 }
 
@@ -162,8 +196,15 @@ void test_long(uint32_t share) {
             length = call_length(h.place).length;
             if (is_looked_at(p, limit)) CHECK(bare_is_length(n, measure, list, words, p, length));
         }
-        printf(" %lu", (unsigned long)length);
         CHECK(call_pick(h.place, area, need, words, n).refusal == 7);
+        /* The length will do; one pick less, or more under measure 1, will not. */
+        uint32_t near = measure == 1 ? length + 1 : length - 1;
+        CHECK(call_decide(n, measure, words, (size_t)limit * n, length, area, need).yes == 1);
+        if (near >= 1 && near <= limit) {
+            nookmallow_decision d = call_decide(n, measure, words, (size_t)limit * n, near, area, need);
+            CHECK(d.refusal == 0 && d.yes == 0);
+        }
+        printf(" %lu", (unsigned long)length);
         free(area);
         free(words);
     }
@@ -178,6 +219,7 @@ void test_long(uint32_t share) {
                 next_pick(kind, n, p, words + (p - 1) * n);
             }
             call_whole(n, measure, words, (size_t)m * n, area, need);
+            call_decide(n, measure, words, (size_t)m * n, 1 + below(m), area, need);
             call_table(n, words, (size_t)m * n, out, 32);
         }
         free(area);

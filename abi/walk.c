@@ -123,23 +123,27 @@ static void test(nookmallow_place *p, uint32_t *area) {
     if (!p->passed) p->failed = 1;
 }
 
+/* A new pick, from which on the window begins at `start`: the chains take it in. */
+static void enter(nookmallow_place *p, uint32_t *area, const uint32_t *words, uint32_t start) {
+    uint32_t right = p->limit + 1;
+    p->taken++;
+    own(area + (p->taken - 1) * width(p->boards, p->measure), p->boards, p->measure, p->taken, words);
+    p->start = start;
+    if (turn(p, area)) return;
+    if (p->boundary + 1 == p->taken) {
+        copy(p, area, right, p->taken);
+    } else {
+        compose(p, area, right, right, p->taken);
+        p->compositions++;
+    }
+}
+
 static void take(nookmallow_place *p, uint32_t *area, const uint32_t *words) {
     if (p->measure == 1 && p->taken >= 1 && !p->passed) {
         p->taken++;
         return;
     }
-    p->taken++;
-    own(area + (p->taken - 1) * width(p->boards, p->measure), p->boards, p->measure, p->taken, words);
-    p->start += p->measure == 1 ? p->failed : p->passed;
-    if (!turn(p, area)) {
-        uint32_t right = p->limit + 1;
-        if (p->boundary + 1 == p->taken) {
-            copy(p, area, right, p->taken);
-        } else {
-            compose(p, area, right, right, p->taken);
-            p->compositions++;
-        }
-    }
+    enter(p, area, words, p->start + (p->measure == 1 ? p->failed : p->passed));
     test(p, area);
     while (p->measure == 1 && !p->passed && p->start < p->taken) {
         p->start++;
@@ -147,6 +151,12 @@ static void take(nookmallow_place *p, uint32_t *area, const uint32_t *words) {
         test(p, area);
     }
     clear(p, area, p->limit + 4);
+}
+
+/* The same with the window held at k: no test before pick k, then one a pick. */
+static void hold(nookmallow_place *p, uint32_t *area, const uint32_t *words, uint32_t k) {
+    enter(p, area, words, p->taken + 1 > k ? p->taken + 2 - k : 1);
+    if (p->taken >= k) test(p, area);
 }
 
 static nookmallow_answer report(const nookmallow_place *p) {
@@ -239,25 +249,52 @@ nookmallow_measured walk_length(nookmallow_place p) {
     return r;
 }
 
+/* The causes of a recording lent whole, all but the last; 0 for none. */
+static uint32_t whole_cause(uint32_t n, uint32_t measure, const uint32_t *words, size_t words_len, size_t area_len) {
+    if (n < 2 || n > 32) return 1;
+    if (measure < 1 || measure > 4) return 2;
+    if (words_len % n) return 10;
+    if (words_len == 0) return 8;
+    if (words_len / n > 4096) return 3;
+    if (is_short(n, measure, words_len / n, area_len)) return 4;
+    return is_forbidden(n, words, words_len) ? 5 : 0;
+}
+
+/* Before pick 1 of m: the list is made, at the cost of m - 1 under measure 2. */
+static nookmallow_place begin(uint32_t n, uint32_t measure, uint32_t m, const uint32_t *words, uint32_t *area) {
+    nookmallow_place p = {n, measure, m, 0, 1, 0, 0, 0, measure == 2 ? m - 1 : 0, 0};
+    uint32_t list[32] = {0};
+    for (size_t i = 0; i < (size_t)m * n; i++) list[i % n] |= words[i];
+    set_up(n, measure, m, list, area);
+    return p;
+}
+
+static void end(const nookmallow_place *p, uint32_t *area) {
+    memset(area, 0, (p->limit + 4) * width(p->boards, p->measure) * sizeof *area);
+}
+
 nookmallow_answer walk_whole(uint32_t n, uint32_t measure, const uint32_t *words, size_t words_len, uint32_t *area,
                              size_t area_len) {
-    nookmallow_answer r = {0, 0, 0, 0};
-    size_t m = n ? words_len / n : 0;
-    if (n < 2 || n > 32) r.refusal = 1;
-    else if (measure < 1 || measure > 4) r.refusal = 2;
-    else if (words_len % n) r.refusal = 10;
-    else if (m == 0) r.refusal = 8;
-    else if (m > 4096) r.refusal = 3;
-    else if (is_short(n, measure, m, area_len)) r.refusal = 4;
-    else if (is_forbidden(n, words, words_len)) r.refusal = 5;
+    nookmallow_answer r = {whole_cause(n, measure, words, words_len, area_len), 0, 0, 0};
     if (r.refusal) return r;
-    uint32_t list[32] = {0};
-    for (size_t i = 0; i < words_len; i++) list[i % n] |= words[i];
-    set_up(n, measure, (uint32_t)m, list, area);
-    nookmallow_place p = {n, measure, (uint32_t)m, 0, 1, 0, 0, 0, measure == 2 ? (uint32_t)m - 1 : 0, 0};
-    for (size_t k = 0; k < m; k++) take(&p, area, words + k * n);
-    memset(area, 0, (m + 4) * width(n, measure) * sizeof *area);
+    nookmallow_place p = begin(n, measure, (uint32_t)(words_len / n), words, area);
+    while (p.taken < p.limit) take(&p, area, words + p.taken * n);
+    end(&p, area);
     return report(&p);
+}
+
+nookmallow_decision walk_decide(uint32_t n, uint32_t measure, const uint32_t *words, size_t words_len, uint32_t k,
+                                uint32_t *area, size_t area_len) {
+    nookmallow_decision d = {whole_cause(n, measure, words, words_len, area_len), 0, 0, 0};
+    if (d.refusal == 0 && (k == 0 || k > words_len / n)) d.refusal = 17;
+    if (d.refusal) return d;
+    nookmallow_place p = begin(n, measure, (uint32_t)(words_len / n), words, area);
+    while (p.taken < p.limit && !p.failed) hold(&p, area, words + p.taken * n, k);
+    end(&p, area);
+    d.yes = !p.failed;
+    d.compositions = p.compositions;
+    d.tests = p.tests;
+    return d;
 }
 
 uint32_t walk_table(uint32_t n, const uint32_t *words, size_t words_len, uint32_t *out, size_t out_len) {

@@ -13,6 +13,8 @@ nookmallow_handed walk_pick(nookmallow_place p, uint32_t *area, size_t area_len,
 nookmallow_measured walk_length(nookmallow_place p);
 nookmallow_answer walk_whole(uint32_t n, uint32_t measure, const uint32_t *words, size_t words_len, uint32_t *area,
                              size_t area_len);
+nookmallow_decision walk_decide(uint32_t n, uint32_t measure, const uint32_t *words, size_t words_len, uint32_t k,
+                                uint32_t *area, size_t area_len);
 uint32_t walk_table(uint32_t n, const uint32_t *words, size_t words_len, uint32_t *out, size_t out_len);
 nookmallow_reading walk_read(const uint8_t *bytes, size_t bytes_len, uint32_t limit, uint32_t *out, size_t out_len);
 

@@ -1,5 +1,6 @@
 /*
- * A small controller: it sets its wait from the reach length, after every pick, and is stopped and started at a pick.
+ * A small controller: it asks whether its built-in wait will do for a recorded design; then it sets its wait from the
+ * reach length, after every pick, and is stopped and started at a pick.
  * A real one would read its boards instead of `woven`, and write `struct stored` to a disk or a battery-backed store.
  */
 #include "nookmallow.h"
@@ -8,6 +9,7 @@
 
 #define BOARDS 3u
 #define LIMIT 16u
+#define BUILT_IN 3u /* the wait that this controller has built in */
 #define AREA NOOKMALLOW_AREA_WORDS(BOARDS, NOOKMALLOW_REACH, LIMIT)
 
 struct controller {
@@ -24,7 +26,7 @@ struct stored {
 };
 
 /* What the controller does about each refusal, by its number. */
-static const char *const remedies[17] = {
+static const char *const remedies[18] = {
     "none",
     "boards not 2 to 32: correct the setup",
     "no such measure: correct the setup",
@@ -42,11 +44,22 @@ static const char *const remedies[17] = {
     "file: a link that was so already",
     "file: something after its end",
     "place damaged: open again, and all picks from pick 1",
+    "no window of so many picks: ask with another number, or record more",
 };
 
 static void say(uint32_t refusal, uint32_t wait) {
     if (refusal == NOOKMALLOW_OK) printf(": wait %lu picks\n", (unsigned long)wait);
     else printf(", refusal %lu: %s\n", (unsigned long)refusal, remedies[refusal]);
+}
+
+/* Whether the built-in wait is long enough wherever it begins in `design`. The area serves, as it is not yet in use. */
+static void ask(struct controller *c) {
+    static const uint32_t design[] = {2, 4, 0, 0, 0, 1, 2, 4, 0, 0, 0, 1};
+    nookmallow_decision d = nookmallow_decide(BOARDS, NOOKMALLOW_REACH, design, sizeof design / sizeof design[0], BUILT_IN,
+                                              c->area, AREA);
+    printf("built-in wait of %lu picks", (unsigned long)BUILT_IN);
+    if (d.refusal == NOOKMALLOW_OK) printf(d.yes ? ": will do\n" : ": too short\n");
+    else say(d.refusal, 0);
 }
 
 static uint32_t open_loom(struct controller *c) {
@@ -96,6 +109,7 @@ int main(void) {
         printf("header and archive do not belong together\n");
         return 1;
     }
+    ask(c);
     refusal = open_loom(c);
     if (refusal != NOOKMALLOW_OK) {
         printf("opening");

@@ -8,7 +8,10 @@ use std::fmt;
 
 const REACH: u32 = 3;
 
-// The number of a refusal, 1 to 16, with what to do about it.
+// The wait that this controller has built in.
+const BUILT_IN: u32 = 3;
+
+// The number of a refusal, 1 to 17, with what to do about it.
 #[derive(Clone, Copy, Debug, PartialEq, Eq)]
 struct Refusal(u32);
 
@@ -26,6 +29,7 @@ impl fmt::Display for Refusal {
             9 => "no length so far: go on, without a wait",
             10 => "not a word for each board: read the boards again",
             16 => "place damaged: open again, and all picks from pick 1",
+            17 => "no window of so many picks: ask with another number, or record more",
             _ => "not a refusal of these calls",
         };
         write!(f, "refusal {}: {}", self.0, remedy)
@@ -93,6 +97,13 @@ impl Walk {
     }
 }
 
+// Whether a wait of k picks is long enough wherever it begins in a recorded design.
+fn will_do(n: u32, measure: u32, design: &[u32], k: u32) -> Result<bool, Refusal> {
+    let mut area = vec![0; nookmallow::area_words(n, measure, design.len() as u32 / n)];
+    let d = nookmallow::decide(n, measure, design, k, &mut area);
+    answer(d.refusal, d.yes == 1)
+}
+
 // Takes a pick; the wait is its length, and there is none without one.
 fn weave(walk: &mut Walk, words: &[u32]) -> Result<u32, Refusal> {
     walk.pick(words)?;
@@ -105,6 +116,10 @@ fn wait_of(walk: &Walk) -> u32 {
 
 fn main() -> Result<(), Refusal> {
     let woven: [[u32; 3]; 9] = [[2, 4, 0], [0, 0, 1], [2, 4, 1], [1, 4, 1], [2, 4, 1], [0, 4, 0], [2, 0, 0], [0, 0, 0], [0, 4, 1]];
+    match will_do(3, REACH, &[2, 4, 0, 0, 0, 1, 2, 4, 0, 0, 0, 1], BUILT_IN) {
+        Ok(yes) => println!("built-in wait of {} picks: {}", BUILT_IN, if yes { "will do" } else { "too short" }),
+        Err(refusal) => println!("built-in wait of {} picks, {}", BUILT_IN, refusal),
+    }
     let mut walk = Walk::open(3, REACH, 16, &[])?;
     for (i, words) in woven.iter().enumerate() {
         let wait = weave(&mut walk, words);

@@ -3,7 +3,7 @@
  *
  * Up to 32 boards talk by one-way light links, and each pick of the loom has its own set of open links. From the links,
  * recorded pick by pick, this part works out four lengths from which a controller sets its waits. It answers every
- * input: with the figures asked for, or with one of the 16 refusals below. It keeps nothing between calls, allocates
+ * input: with the figures asked for, or with one of the 17 refusals below. It keeps nothing between calls, allocates
  * nothing, never stops the program, and needs nothing but memcpy, memmove and memset of your C library.
  *
  * Link with libnookmallow.a (x86-64 Linux calling convention). Keep to the declarations below: nothing checks at run
@@ -62,6 +62,7 @@
  * recorded. Under measure 1 count on a lasting set of links for k picks OR FEWER. A length speaks of the picks taken,
  * and of no others, so ask again after each pick: under measures 2 to 4 a later pick can make it longer, never shorter;
  * under measure 1 it can become longer, by one pick, only while it equals m, and once it is below m it never does.
+ * Where the wait is built in, nookmallow_decide says whether it will do for what was recorded.
  *
  * ---- A design that is repeated
  *
@@ -90,6 +91,8 @@
  *   11 to 15   the file is wrong where the number says; nothing was read.
  *   16         the place was altered or never opened. Open anew and hand over all picks again; or, where you know the
  *              length after some pick, hand over the last R picks up to that one and every pick since, as below.
+ *   17         no window of k picks lies in the recording, and nothing has changed: ask with a k from 1 to m, or lend
+ *              more picks.
  *
  * ---- Going on past the limit
  *
@@ -162,7 +165,7 @@ extern "C" {
 #define NOOKMALLOW_REACH 3u
 #define NOOKMALLOW_ROUND_TRIP 4u
 
-/* The words that an area needs: for an opening of `limit` picks, or for a whole run of `limit` picks. */
+/* The words that an area needs: for an opening of `limit` picks, or for a whole run or a decision over `limit` picks. */
 #define NOOKMALLOW_PART_WORDS(n, measure) ((measure) == 4 ? 2 * (size_t)(n) * (size_t)(n) : (size_t)(n))
 #define NOOKMALLOW_AREA_WORDS(n, measure, limit) (((size_t)(limit) + 4) * NOOKMALLOW_PART_WORDS(n, measure))
 
@@ -170,8 +173,9 @@ extern "C" {
 #define NOOKMALLOW_RECORDING_WORDS(n, picks) ((size_t)(n) * (size_t)(picks))
 
 /*
- * A thread that calls needs this much stack to spare. Measured, not proved: nookmallow_pick takes the most, some 14 KiB
- * under measure 4 and 11 KiB under the others, and where calls are bound lazily the linker takes some 3 KiB more once.
+ * A thread that calls needs this much stack to spare. Measured, not proved: pick, whole and decide take the most, some
+ * 14 KiB under measure 4 and 11 KiB under the others, and where calls are bound lazily the linker takes some 3 KiB more
+ * once.
  */
 #define NOOKMALLOW_STACK_BYTES 24576u
 
@@ -190,13 +194,14 @@ enum nookmallow_refusal {
     NOOKMALLOW_FULL = 7,       /* one pick more than the limit; how to go on stands above */
     NOOKMALLOW_NO_PICK = 8,    /* no pick yet, so no length */
     NOOKMALLOW_NO_LENGTH = 9,  /* no length exists: all picks together fail (2 to 4), or some single pick does (1) */
-    NOOKMALLOW_SHAPE = 10,     /* the number of words is not n (a pick, the list), or not a multiple of n (whole, table) */
+    NOOKMALLOW_SHAPE = 10,     /* the number of words is not n (a pick, the list), or not a multiple of n (lent whole) */
     NOOKMALLOW_COMMAND = 11,   /* file: an unknown command, the first is not 42, or 42 again */
     NOOKMALLOW_STOPPED = 12,   /* file: it stops before 45 or inside operands; an empty file too */
     NOOKMALLOW_OPERANDS = 13,  /* file: the two boards of a link are equal, or one is n or above */
     NOOKMALLOW_UNCHANGED = 14, /* file: opens a link that is open, or shuts one that is shut */
     NOOKMALLOW_TRAILING = 15,  /* file: bytes after 45 */
-    NOOKMALLOW_PLACE = 16      /* no walk comes to this place: it was altered, never opened, or not stored whole */
+    NOOKMALLOW_PLACE = 16,     /* no walk comes to this place: it was altered, never opened, or not stored whole */
+    NOOKMALLOW_WINDOW = 17     /* decide: k is 0, or above the number of picks lent */
 };
 
 /*
@@ -236,6 +241,13 @@ typedef struct nookmallow_measured {
     uint32_t tests;
     nookmallow_place place;
 } nookmallow_measured;
+
+typedef struct nookmallow_decision {
+    uint32_t refusal;
+    uint32_t yes; /* 1 where every window of k picks passes; 0 where one fails, and where refused */
+    uint32_t compositions;
+    uint32_t tests;
+} nookmallow_decision;
 
 typedef struct nookmallow_reading {
     uint32_t refusal;
@@ -280,6 +292,24 @@ nookmallow_measured nookmallow_length(nookmallow_place p);
  */
 nookmallow_answer nookmallow_whole(uint32_t n, uint32_t measure, const uint32_t *words, size_t words_len,
                                    uint32_t *area, size_t area_len);
+
+/*
+ * Whether a window length will do: does every window of k picks pass, in a whole recording of m = words_len / n picks?
+ * For a controller that has k built in. `yes` is 1 where all m - k + 1 windows pass, and 0 where one fails. That is,
+ * with the length that nookmallow_whole answers: under measures 2 to 4 yes exactly where the length is AT MOST k, so a
+ * wait of k picks is long enough; under measure 1 yes exactly where k is AT MOST the length, so a lasting set of links
+ * can be counted on for k picks. Where there is no length (9), it is no for every k. Under measure 2 the list is all
+ * links that are open at any pick. Yes speaks of the picks lent, and of no others; of a design of d picks that is
+ * repeated lend at least k + d - 1 picks, round after round: then yes holds for every further round too, which is proved.
+ * The area needs NOOKMALLOW_AREA_WORDS(n, measure, m) words, whatever k is; they may hold anything, and are zero
+ * afterwards, after yes and after no. Words beyond stay as they are. The windows are tested from the first on, and it
+ * stops at the first that fails. The counts are the work done: at most 3 * (m - 1) compositions and m tests; measure 2
+ * first makes m - 1 compositions more, for its list.
+ * Refused, looked for in this order: 1, 2, 10, 8, 3, 4, 5, 17. `yes` and the counts are then 0 and the area stays as it
+ * was, so look at `refusal` before `yes`.
+ */
+nookmallow_decision nookmallow_decide(uint32_t n, uint32_t measure, const uint32_t *words, size_t words_len, uint32_t k,
+                                      uint32_t *area, size_t area_len);
 
 /*
  * The table of reach of a whole recording, into the first n words of `out`: bit v of word u is set when a message gets

@@ -45,6 +45,15 @@ pub struct Measured {
 
 #[repr(C)]
 #[derive(Clone, Copy, Debug, Default, PartialEq, Eq)]
+pub struct Decision {
+    pub refusal: u32,
+    pub yes: u32,
+    pub compositions: u32,
+    pub tests: u32,
+}
+
+#[repr(C)]
+#[derive(Clone, Copy, Debug, Default, PartialEq, Eq)]
 pub struct Reading {
     pub refusal: u32,
     pub boards: u32,
@@ -58,6 +67,7 @@ extern "C" {
     fn nookmallow_pick(p: Place, area: *mut u32, area_len: usize, words: *const u32, words_len: usize) -> Handed;
     fn nookmallow_length(p: Place) -> Measured;
     fn nookmallow_whole(n: u32, measure: u32, words: *const u32, words_len: usize, area: *mut u32, area_len: usize) -> Answer;
+    fn nookmallow_decide(n: u32, measure: u32, words: *const u32, words_len: usize, k: u32, area: *mut u32, area_len: usize) -> Decision;
     fn nookmallow_table(n: u32, words: *const u32, words_len: usize, out: *mut u32, out_len: usize) -> u32;
     fn nookmallow_read(bytes: *const u8, bytes_len: usize, limit: u32, out: *mut u32, out_len: usize) -> Reading;
 }
@@ -89,6 +99,10 @@ pub fn length(p: Place) -> Measured {
 
 pub fn whole(n: u32, measure: u32, words: &[u32], area: &mut [u32]) -> Answer {
     unsafe { nookmallow_whole(n, measure, words.as_ptr(), words.len(), area.as_mut_ptr(), area.len()) }
+}
+
+pub fn decide(n: u32, measure: u32, words: &[u32], k: u32, area: &mut [u32]) -> Decision {
+    unsafe { nookmallow_decide(n, measure, words.as_ptr(), words.len(), k, area.as_mut_ptr(), area.len()) }
 }
 
 pub fn table(n: u32, words: &[u32], out: &mut [u32]) -> u32 {

@@ -11,11 +11,13 @@ use Rattle.model.proofs.Causes.{among, among-then}
 use Rattle.model.proofs.Logic.{F→≡}
 use Rattle.place.specs.declared.Place.{Place}
 use Rattle.place.specs.Places.{fresh, nowhere}
-use Rattle.verdicts.specs.Verdicts.{openCauses, pickCauses, wholeCauses, openVerdict, pickVerdict, wholeVerdict}
+use Rattle.area.specs.Parts.{zeroed}
+use Rattle.verdicts.specs.Verdicts.{needed, openCauses, pickCauses, wholeCauses, openVerdict, pickVerdict, wholeVerdict}
 use Rattle.steps.specs.Walk.{State, reported}
 use Rattle.calls.specs.Answers.{outcome, answerBy}
 use Rattle.calls.specs.Calls.{openedArea, openSays, openLeaves, reportSays, lengthSays, wholeAfter, wholeReport, wholeSays, lengthCauses}
 use Rattle.calls.proofs.Taken.{refused-state}
+use Rattle.decision.specs.Decisions.{decisionCauses, decisionVerdict, decideLeaves}
 use Rattle.reach.specs.Tables.{tableVerdict, tableOf, tableLeaves, tableCauses}
 use Rattle.recording.specs.Answers.{readSays}
 use Rattle.recording.proofs.Causes.{file-numbers}
@@ -23,11 +25,12 @@ use Rattle.recording.proofs.Laws.{refused-law}
 use Rattle.recording.proofs.Grammar.{reads-exactly, reads-as-written}
 use Rattle.law.proofs.Whole.{refused-run-stays}
 use Rattle.numbers.proofs.Taken.{open-exactly, unlisted-verdict, open-unlisted, pick-exactly as picks-exactly, sixteen-exactly, eight-exactly, unlistedCauses}
-use Rattle.numbers.proofs.Taken.{whole-exactly as runs-exactly, table-exactly as tables-exactly, all-taken}
+use Rattle.numbers.proofs.Taken.{whole-exactly as runs-exactly, decision-says, refused-decision, decision-exactly as decisions-exactly}
+use Rattle.numbers.proofs.Taken.{table-exactly as tables-exactly, all-taken}
 use Rattle.acceptance.specs.Condition1.{OpeningNumbers, ListUnread, OpeningNumbersNoList, PickNumbers, LengthNumbers}
 use Rattle.acceptance.specs.Condition1.{WholeNumbers, TableNumbers, ReadingNumbers, OpeningRefused, PickRefused, WholeRefused, TableRefused}
 use Rattle.acceptance.specs.Condition1.{ReadingRefused, OpeningExactly, PickExactly, LengthSixteen, LengthEight, WholeExactly, TableExactly}
-use Rattle.acceptance.specs.Condition1.{ReadingExactly, ReadingAsWritten, WhatFitsIsTaken}
+use Rattle.acceptance.specs.Condition1.{ReadingExactly, ReadingAsWritten, WhatFitsIsTaken, DecisionNumbers, DecisionRefused, DecisionExactly}
 
 -- ---- which numbers a call gives; 0 is none
 
@@ -70,6 +73,10 @@ unfolding wholeSays wholeVerdict wholeReport
 whole-numbers n measure w a = let p = wholeAfter n measure (length w / n) w a (length w / n) .place in answer-numbers (wholeCauses n measure w a)
     (reported p) p tt
 
+pub decision-numbers : DecisionNumbers
+unfolding decisionVerdict
+decision-numbers n measure w k a = rw (decision-says n measure w k a) (among (decisionCauses n measure w k a))
+
 pub table-numbers : TableNumbers
 unfolding tableVerdict
 table-numbers n w out = among (tableCauses n w out)
@@ -97,6 +104,13 @@ pick-refused p a w f =
 pub whole-refused : WholeRefused
 whole-refused = refused-run-stays
 
+pub decision-refused : DecisionRefused
+unfolding decideLeaves
+decision-refused n measure w k a f = (
+  refused-decision n measure w k a f,
+  ap (λ (b : Bool). cond b (zeroed (needed measure n (length w / n)) a) a) (not-zero (decisionVerdict n measure w k a) f),
+)
+
 pub table-refused : TableRefused
 unfolding tableLeaves
 table-refused n w out f = ap (λ (b : Bool). cond b (tableOf n w ++ drop n out) out) (not-zero (tableVerdict n w out) f)
@@ -121,6 +135,9 @@ length-eight = eight-exactly
 
 pub whole-exactly : WholeExactly
 whole-exactly n measure w a = runs-exactly n w measure a
+
+pub decision-exactly : DecisionExactly
+decision-exactly n measure w k a = decisions-exactly n w measure k a
 
 pub table-exactly : TableExactly
 table-exactly n w out = tables-exactly n w out

@@ -5,3 +5,4 @@ pub mod Condition3
 pub mod Cases
 pub mod Area
 pub mod Longer
+pub mod Decision

@@ -22,15 +22,18 @@ use Rattle.verdicts.specs.Verdicts.{wholeVerdict}
 use Rattle.verdicts.proofs.Verdicts.{open-sound}
 use Rattle.calls.specs.Answers.{Outcome}
 use Rattle.calls.specs.Calls.{unions, wholeSays}
+use Rattle.decision.specs.Decisions.{decisionVerdict, decideSays}
+use Rattle.decision.proofs.Verdicts.{decision-sound}
 use Rattle.law.specs.Correct.{PassesWith, Passes, Right, answered, none-exists}
 use Rattle.law.specs.Claim2.{afterPicks, Fits, lentRecording}
 use Rattle.law.proofs.Longer.{is-smallest, passes-up, passes-listed, passes-alike, left-inside, right-inside}
 use Rattle.law.proofs.Online.{online}
 use Rattle.law.proofs.Whole.{whole}
+use Rattle.law.proofs.Decisions.{decisions}
 use Rattle.numbers.specs.Events.{afterEvents, takenOf}
 use Rattle.numbers.proofs.Events.{any-order}
-use Rattle.acceptance.specs.Longer.{SaysLength, rounds, repetition, RepeatedDesign, RepeatedRuns, RepeatedCommon, WalkAnswers, GoneOn, one-walk}
-use Rattle.acceptance.specs.Longer.{next-walk, greatest, GoingOn, GoingOnCommon}
+use Rattle.acceptance.specs.Longer.{SaysLength, rounds, repetition, RepeatedDesign, RepeatedRuns, RepeatedDecisions, RepeatedCommon, WalkAnswers, GoneOn}
+use Rattle.acceptance.specs.Longer.{one-walk, next-walk, greatest, GoingOn, GoingOnCommon}
 
 -- an outcome that is right is the smallest length, unless it is a refusal
 right-smallest : {P : ℕ → ℕ → Type 0} {m k : ℕ} {o : Outcome} (measure : ℕ) → 2 ≤ measure → Right measure P m o → SaysLength o k → Smallest P m k
@@ -170,6 +173,38 @@ repeated-runs n measure low design some m more k longer w a e same says room x b
     (smallest-agree (passes-listed unlimited turn01 measure n more f l (repetition design more)
     (λ y z. Iff·trans (t .links y z) (Iff·trans (links y z) (Iff·symm (u .links y z)))))
     (smallest-repetition design some m more longer unlimited turn01 measure n f (omega arith) s))
+
+-- what a decision tells of m picks r: the footprint of the run has exactly their links, and yes is that every window passes
+record DecisionTells (n measure : ℕ) (w : List ℕ) (k : ℕ) (a : List ℕ) (r : List (List ℕ)) (m : ℕ) : Type 0 where
+  links : (u v : ℕ) → T (link (unions n w (length w / n)) u v) ↔ SomeLink r 1 m u v
+  yes : T (decideSays n measure w k a .yes) ↔ Every (Passes measure n (unions n w (length w / n)) r) m k
+  low : 1 ≤ k
+
+decision-tells : (n measure : ℕ) (w : List ℕ) (k : ℕ) (a : List ℕ) → decisionVerdict n measure w k a ≡ 0 → (design : List (List ℕ)) → 1 ≤ length design
+    → (m : ℕ) → lentRecording n w ≡ repetition design m → DecisionTells n measure w k a (repetition design m) m
+decision-tells n measure w k a e design some m same =
+    let s = decision-sound n measure w k a e in
+    let c : length w / n ≡ m = sym (whole n measure w a (s .0) .picks) ∙ ap length same ∙ repetition-long design some m in
+    record {
+      links = run-tells n measure w a (s .0) design some m same .links;
+      yes = subst (λ (x : ℕ). T (decideSays n measure w k a .yes) ↔ Every (Passes measure n (unions n w (length w / n)) (repetition design m)) x k) c
+          (subst (λ (r : List (List ℕ)). T (decideSays n measure w k a .yes) ↔ Every (Passes measure n (unions n w (length w / n)) r) (length w / n) k) same
+          (decisions n measure w k a e .yes));
+      low = s .1;
+    }
+
+pub repeated-decisions : RepeatedDecisions
+repeated-decisions n measure design some m more k longer w a e same says room x b e-more same-more =
+    let f = unions n w (length w / n) in
+    let l = unions n x (length x / n) in
+    let t = decision-tells n measure w k a e design some m same in
+    let u = decision-tells n measure x k b e-more design some more same-more in
+    let low = t .low in
+    let links = some-repetition design some m more longer (omega arith) in
+    let agree = passes-listed unlimited turn01 measure n more f l (repetition design more)
+    (λ y z. Iff·trans (t .links y z) (Iff·trans (links y z) (Iff·symm (u .links y z)))) in
+    let every = every-repetition design some m more longer unlimited turn01 measure n f low (omega arith) (t .yes .0 says) in
+    u .yes .1 (λ i j from upto row. agree i j from (omega arith) upto .0 (every i j from upto row))
 
 -- ---- going on past the limit
 

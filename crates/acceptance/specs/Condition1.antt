@@ -3,6 +3,7 @@
 -- returns, is its proved contract: none has a `requires`.
 use mathlib.Core.Path.{_≡_}
 use mathlib.Core.Logic.{_↔_}
+use mathlib.Core.Bool.{false}
 use mathlib.Core.List.{List, [], _∷_}
 use Prim.Native.Nat.{ℕ, _≤_}
 use lib.ListN.{length}
@@ -12,11 +13,12 @@ use Rattle.place.specs.declared.Place.{Place}
 use Rattle.place.specs.Places.{nowhere, Sound}
 use Rattle.verdicts.specs.Verdicts.{wholeVerdict}
 use Rattle.calls.specs.Calls.{openSays, openLeaves, pickSays, pickLeaves, lengthSays, wholeSays, wholeLeaves}
+use Rattle.decision.specs.Decisions.{decided, decisionVerdict, decideSays, decideLeaves}
 use Rattle.reach.specs.Tables.{tableVerdict, tableLeaves}
 use Rattle.recording.specs.Answers.{readSays, readLeaves}
 use Rattle.recording.specs.Grammar.{Reads, AsWritten}
 use Rattle.law.specs.Claim2.{openState, EachTaken, Fits}
-use Rattle.numbers.specs.Checks.{MayOpen, MayTake, MayRun, MayTable}
+use Rattle.numbers.specs.Checks.{MayOpen, MayTake, MayRun, MayDecide, MayTable}
 
 -- ---- which numbers a call gives; 0 is none
 
@@ -47,6 +49,11 @@ LengthNumbers = (p : Place) → Among (lengthSays p .refusal) (16 ∷ 8 ∷ 9 �
 abbrev pub WholeNumbers : Type 0
 WholeNumbers = (n measure : ℕ) (w a : List ℕ) → Among (wholeSays n measure w a .refusal) (1 ∷ 2 ∷ 10 ∷ 8 ∷ 3 ∷ 4 ∷ 5 ∷ 9 ∷ 0 ∷ [])
 
+-- The decision gives 1, 2, 10, 8, 3, 4, 5, 17 or none.
+abbrev pub DecisionNumbers : Type 0
+DecisionNumbers = (n measure : ℕ) (w : List ℕ) (k : ℕ) (a : List ℕ) → Among (decideSays n measure w k a .refusal)
+    (1 ∷ 2 ∷ 10 ∷ 8 ∷ 3 ∷ 4 ∷ 5 ∷ 17 ∷ 0 ∷ [])
+
 -- The table of reach gives 1, 10, 8, 3, 4, 5 or none.
 abbrev pub TableNumbers : Type 0
 TableNumbers = (n : ℕ) (w out : List ℕ) → Among (tableVerdict n w out) (1 ∷ 10 ∷ 8 ∷ 3 ∷ 4 ∷ 5 ∷ 0 ∷ [])
@@ -70,6 +77,11 @@ PickRefused = (p : Place) (a w : List ℕ) → (pickSays p a w .refusal ≡ 0 �
 -- A whole run that is refused by a check leaves the area as it was; 9 is no such refusal: its words end zero as after an answer
 abbrev pub WholeRefused : Type 0
 WholeRefused = (n measure : ℕ) (w a : List ℕ) → (wholeVerdict n measure w a ≡ 0 → ⊥) → wholeLeaves n measure w a ≡ a
+
+-- A refused decision leaves the area as it was, and answers the number alone: no, with counts 0.
+abbrev pub DecisionRefused : Type 0
+DecisionRefused = (n measure : ℕ) (w : List ℕ) (k : ℕ) (a : List ℕ) → (decisionVerdict n measure w k a ≡ 0 → ⊥)
+    → (decideSays n measure w k a ≡ decided (decisionVerdict n measure w k a) false 0 0) × (decideLeaves n measure w k a ≡ a)
 
 -- A refused table leaves the output as it was.
 abbrev pub TableRefused : Type 0
@@ -101,6 +113,10 @@ LengthEight = (p : Place) → (lengthSays p .refusal ≡ 8) ↔ (Sound p × (p .
 -- A whole run runs exactly where `MayRun` holds; 9 is no cause: it comes after a run.
 abbrev pub WholeExactly : Type 0
 WholeExactly = (n measure : ℕ) (w a : List ℕ) → (wholeVerdict n measure w a ≡ 0) ↔ MayRun n measure w a
+
+-- A decision is answered by yes or no exactly where `MayDecide` holds.
+abbrev pub DecisionExactly : Type 0
+DecisionExactly = (n measure : ℕ) (w : List ℕ) (k : ℕ) (a : List ℕ) → (decideSays n measure w k a .refusal ≡ 0) ↔ MayDecide n measure w k a
 
 -- The table of reach is written exactly where `MayTable` holds.
 abbrev pub TableExactly : Type 0

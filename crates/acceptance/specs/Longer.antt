@@ -3,11 +3,13 @@
 use mathlib.Core.Path.{_≡_}
 use mathlib.Core.List.{List, [], _∷_, _++_}
 use Prim.Native.Nat.{ℕ, zero, suc, max, _+_, _≤_}
+use lib.Dec.{T}
 use lib.ListN.{length, take}
 use Rattle.model.specs.Length.{Every}
 use Rattle.verdicts.specs.Verdicts.{openVerdict, wholeVerdict}
 use Rattle.calls.specs.Answers.{Outcome}
 use Rattle.calls.specs.Calls.{lengthSays, wholeSays}
+use Rattle.decision.specs.Decisions.{decisionVerdict, decideSays}
 use Rattle.law.specs.Correct.{Passes, IsLength}
 use Rattle.law.specs.Claim2.{openState, afterPicks, EachTaken, lentRecording}
 
@@ -40,6 +42,14 @@ RepeatedRuns = (n measure : ℕ) → 2 ≤ measure → (design : List (List ℕ)
     → SaysLength (wholeSays n measure w a) k → k + length design ≤ m + 1
     → (x b : List ℕ) → wholeVerdict n measure x b ≡ 0 → lentRecording n x ≡ repetition design more
     → SaysLength (wholeSays n measure x b) k
+
+-- And with decisions, under every measure: a yes for windows of at most m - d + 1 picks is a yes for every greater number of picks of the repetition.
+abbrev pub RepeatedDecisions : Type 0
+RepeatedDecisions = (n measure : ℕ) (design : List (List ℕ)) → 1 ≤ length design → (m more k : ℕ) → m ≤ more
+    → (w a : List ℕ) → decisionVerdict n measure w k a ≡ 0 → lentRecording n w ≡ repetition design m
+    → T (decideSays n measure w k a .yes) → length design + k ≤ m + 1
+    → (x b : List ℕ) → decisionVerdict n measure x k b ≡ 0 → lentRecording n x ≡ repetition design more
+    → T (decideSays n measure x k b .yes)
 
 -- Under measure 1 every window passes, in every greater number of picks, of as many picks as are at most the length of the m and at most m - d + 1.
 abbrev pub RepeatedCommon : Type 0

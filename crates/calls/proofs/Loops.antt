@@ -31,6 +31,7 @@ use Rattle.steps.specs.Fit.{Takes, Ready, Does}
 use Rattle.steps.specs.Alike.{Alike, finished}
 use Rattle.steps.specs.Bare.{bareStep}
 use Rattle.steps.proofs.Fit.{boards-of, limit-of, charged-none}
+use Rattle.steps.proofs.Grown.{Grown}
 use Rattle.steps.proofs.Ready.{Stepped, step-takes, stepped-grown, stepped-framed, ready-on}
 use Rattle.steps.proofs.Alike.{StillAlike, alike-fresh, finished-step, finished-stays}
 use Rattle.steps.proofs.Bare.{bare-place, bare-whole, bare-walks, bare-frame}
@@ -152,26 +153,22 @@ module _ {p q : Place} {w a b : List ℕ} {m k : ℕ} (g : AfterPicks p w a m k 
       let y = g .starts .limit in
       step-takes (g .ready) room (omega arith) (omega arith) shape
 
-  -- a step that comes to the place of the walk, and writes no word beyond the parts
-  pub along-turn : {r : Place} {d : List ℕ} → r ≡ stepped (kitOf (q .settings)) pick (state q b) .place → length d ≡ length b
+  -- a pick that leaves the place ready again, charges no more than a pick may, and writes no word beyond the parts
+  pub along-grown : {r : Place} {d : List ℕ} {i c t : ℕ} → Grown q r 1 i c t → r .window .start .0 ≤ r .window .boundary .0 + 1
+      → r .window .start .0 ≤ r .window .taken .0 → c ≤ perPick → t ≤ perPick → length d ≡ length b
       → drop ((q .settings .limit + 4) * partSize (kitOf (q .settings))) d ≡ drop ((q .settings .limit + 4) * partSize (kitOf (q .settings))) b
       → AfterPicks p w a m (k + 1) r d
-  along-turn {r} {d} e size out =
-      let s = subst (λ (x : Place). Stepped q x) (sym e) (stepped-grown q b pick (g .ready)) in
-      let u = s .grown in
+  along-grown {r} {d} u near inside few-comps few-tests size out =
       let sc = u .comps in
       let sT = u .tests in
-      let sf = s .few in
       let sm = u .taken in
       let gc = g .comps in
       let gt = g .tests in
       let gm = g .taken in
-      let z = g .starts .ready .able .cap in
-      let y = g .starts .limit in
       record {
         starts = g .starts;
         low = omega arith;
-        ready = subst (λ (x : ℕ). Ready r x) (sym size) (ready-on s (g .ready));
+        ready = subst (λ (x : ℕ). Ready r x) (sym size) (ready-on u near inside (g .ready));
         size = size ∙ g .size;
         settings = u .settings ∙ g .settings;
         taken = omega arith;
@@ -180,6 +177,18 @@ module _ {p q : Place} {w a b : List ℕ} {m k : ℕ} (g : AfterPicks p w a m k 
         beyond = subst (λ (s : Settings). drop ((s .limit + 4) * partSize (kitOf s)) d ≡ drop ((s .limit + 4) * partSize (kitOf s)) b) (g .settings) out
             ∙ g .beyond;
       }
+
+  -- a step that comes to the place of the walk
+  pub along-turn : {r : Place} {d : List ℕ} → r ≡ stepped (kitOf (q .settings)) pick (state q b) .place → length d ≡ length b
+      → drop ((q .settings .limit + 4) * partSize (kitOf (q .settings))) d ≡ drop ((q .settings .limit + 4) * partSize (kitOf (q .settings))) b
+      → AfterPicks p w a m (k + 1) r d
+  along-turn {r} {d} e size out =
+      let s = subst (λ (x : Place). Stepped q x) (sym e) (stepped-grown q b pick (g .ready)) in
+      let sf = s .few in
+      let gm = g .taken in
+      let z = g .starts .ready .able .cap in
+      let y = g .starts .limit in
+      along-grown (s .grown) (s .near) (s .inside) (omega arith) (omega arith) size out
 
   -- a step of the walk
   pub along-walk : AfterPicks p w a m (k + 1) (stepped (kitOf (q .settings)) pick (state q b) .place) (stepped (kitOf (q .settings)) pick (state q b) .area)

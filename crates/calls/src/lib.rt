@@ -1,4 +1,4 @@
-// The calls of the walk: opening, pick, length, whole run. None requires anything.
+// The calls of the walk: opening, pick, length, whole run. None of the four requires anything; `whole_start` and `zero_needed`, which `decision` uses too, do.
 ghost use mathlib.Core.Path.{_≡_};
 ghost use mathlib.Core.Logic.{_≢_};
 ghost use Prim.Native.Nat.{_-_, _*_, _≤_};
@@ -17,6 +17,7 @@ use model::Compositions;
 use model::Refusal;
 use model::Tests;
 use place::Place;
+use steps::Mode;
 use verdicts::Verdict;
 
 // Opening answers the place, or a cause with the place of zeros and noes.
@@ -46,7 +47,7 @@ pub struct Measured {
 // ---- opening
 
 // The needed words zero.
-fn zero_needed(n: usize, measure: usize, limit: usize, area: &mut [u32])
+pub fn zero_needed(n: usize, measure: usize, limit: usize, area: &mut [u32])
     requires { ⌜ (n ≤ 32) × (limit ≤ 4096) × (needed measure n limit ≤ length (now area)) ⌝ }
     ensures { λ _. ⌜ now (area .exit) ≡ zeroed (needed measure n limit) (now (area .entry)) ⌝ }
 {
@@ -89,7 +90,7 @@ fn step_links(p: Place, area: &mut [u32], words: &[u32]) -> Place
 {
     let n = p.settings.boards;
     let mut right = lists::no_words();
-    steps::step(p, area, words, &mut right[0..n], true)
+    steps::step(p, area, words, &mut right[0..n], Mode::Kept)
 }
 
 // One step under measure 4, with room for the copy of a table of times.
@@ -100,7 +101,7 @@ fn step_times(p: Place, area: &mut [u32], words: &[u32]) -> Place
     let n = p.settings.boards;
     let k = measures::size(4, n);
     let mut right = lists::no_times();
-    steps::step(p, area, words, &mut right[0..k], true)
+    steps::step(p, area, words, &mut right[0..k], Mode::Kept)
 }
 
 fn take_pick(p: Place, area: &mut [u32], words: &[u32]) -> Place
@@ -184,7 +185,7 @@ fn make_footprint(p: Place, words: &[u32], n: usize, m: usize, out: &mut [u32]) 
 
 // The place that a whole run starts from, and all that the steps read of the area before they write it: the footprint. Only measure 2 has one, the
 // union of all picks, made in part m + 3.
-fn whole_start(n: usize, measure: usize, words: &[u32], m: usize, area: &mut [u32]) -> Place
+pub fn whole_start(n: usize, measure: usize, words: &[u32], m: usize, area: &mut [u32]) -> Place
     requires { ⌜ Runs n measure m (now words) (now area) ⌝ }
     ensures { λ r. ⌜ Begins n measure m (now (words .entry)) (now (area .entry)) r (now (area .exit)) ⌝ }
 {
@@ -212,7 +213,7 @@ fn whole_steps(p: Place, area: &mut [u32], words: &[u32], m: usize, right: &mut 
             return q.picks_taken(m - k);
         }
         let at = k * n;
-        q = steps::step(q, area, &words[at..at + n], right, false);
+        q = steps::step(q, area, &words[at..at + n], right, Mode::Unkept);
     }
     q
 }

@@ -48,6 +48,12 @@ fn print_generated(words: &mut [u32], area: &mut [u32]) {
     print_line(Group::Generated(Kind::Tables), 0, words, area);
 }
 
+fn print_decisions(words: &mut [u32], area: &mut [u32]) {
+    print_measures(Group::ByHand(Kind::Decisions), words, area);
+    print_measures(Group::Generated(Kind::Decisions), words, area);
+    print_line(Group::Edges(Call::Decide), 0, words, area);
+}
+
 fn print_edges(words: &mut [u32], area: &mut [u32]) {
     print_line(Group::Edges(Call::Whole), 0, words, area);
     print_line(Group::Edges(Call::Table), 0, words, area);
@@ -68,6 +74,7 @@ fn main() {
     io::write_all(STDOUT_FILENO, b"group measure cases mismatches\n");
     print_files(&mut words, &mut area);
     print_generated(&mut words, &mut area);
+    print_decisions(&mut words, &mut area);
     print_edges(&mut words, &mut area);
     print_walk_edges(&mut words, &mut area);
 }

@@ -40,11 +40,15 @@ fn read_edge(lent: usize, limit: usize, out: &mut [u32]) -> Outcome {
     reading(recording::read(&bytes[0..lent], limit, out))
 }
 
-// What the call answers, its counts left out.
+// What the call answers, its counts, and yes or no, left out.
 fn answer(call: Call, e: Edge, words: &[u32], area: &mut [u32]) -> Outcome {
     match call {
         Call::Whole => {
             let o = compare_tallies::answered(calls::whole(e.0, e.1, words, area));
+            compare_tallies::refused(o.refusal)
+        }
+        Call::Decide => {
+            let o = compare_tallies::decided(decision::decide(e.0, e.1, words, e.2, area));
             compare_tallies::refused(o.refusal)
         }
         Call::Table => compare_tallies::tabled(reach::table(e.0, words, area)),

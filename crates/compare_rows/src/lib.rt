@@ -80,6 +80,51 @@ fn whole_row(i: usize) -> Edge {
     WHOLE_EDGES[i % WHOLE_COUNT]
 }
 
+// ---- a window length
+
+// The window lengths that each row of a whole run is asked with: 0, 1, the number of picks, one more, and the largest number.
+const LENGTH_COUNT: usize = 5;
+
+const DECIDE_COUNT: usize = WHOLE_COUNT * LENGTH_COUNT;
+
+fn window_length(j: usize, picks: usize) -> usize {
+    match j {
+        0 => 0,
+        1 => 1,
+        2 => picks,
+        3 => std::num::wrapping_add_usize(picks, 1),
+        _ => 18446744073709551615,
+    }
+}
+
+// 17 comes last: it is the refusal only where nothing else refuses. Without a length, 9, a decision is no.
+fn decide_refusal(number: usize, k: usize, picks: usize) -> usize {
+    match number {
+        0 | 9 => {
+            if k == 0 {
+                return 17;
+            }
+            if picks < k {
+                return 17;
+            }
+            0
+        }
+        _ => number,
+    }
+}
+
+fn asked(e: Edge, j: usize) -> Edge {
+    let picks = if e.0 == 0 { 0usize } else { e.3 / e.0 };
+    let k = window_length(j, picks);
+    let number = decide_refusal(e.7, k, picks);
+    Edge(e.0, e.1, k, e.3, e.4, e.5, e.6, number)
+}
+
+// A row of a whole run, with a window length at 2.
+fn decide_row(i: usize) -> Edge {
+    asked(whole_row(i / LENGTH_COUNT), i % LENGTH_COUNT)
+}
+
 // ---- the table of reach
 
 const TABLE_COUNT: usize = 24;
@@ -440,6 +485,7 @@ pub fn altered(from: usize, field: usize, x: usize) -> Place {
 pub fn count(call: Call) -> usize {
     match call {
         Call::Whole => WHOLE_COUNT,
+        Call::Decide => DECIDE_COUNT,
         Call::Table => TABLE_COUNT,
         Call::Open => OPEN_COUNT,
         Call::Read => READ_COUNT,
@@ -452,6 +498,7 @@ pub fn count(call: Call) -> usize {
 pub fn row(call: Call, i: usize) -> Edge {
     match call {
         Call::Whole => whole_row(i),
+        Call::Decide => decide_row(i),
         Call::Table => table_row(i),
         Call::Open => open_row(i),
         Call::Read => read_row(i),

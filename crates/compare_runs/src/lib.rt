@@ -68,6 +68,52 @@ fn counts_case(t: Tally, name: &[u8], case: Case, words: &[u32], area: &mut [u32
     compare_tallies::compared(t, name, case, got, bounded(got, case.measure, case.picks))
 }
 
+// ---- a window length
+
+// What the second implementation answers: yes or no over all windows, with the counts of its walk on numbers. Where that walk answers otherwise there is
+// no one answer.
+fn naive_decision(words: &[u32], case: Case, k: usize) -> Outcome
+    requires { ⌜ Sized case × ((1 ≤ k) × (k ≤ case .picks)) ⌝ }
+{
+    let n = case.boards;
+    let m = case.picks;
+    let yes = naive::all_pass(words, n, m, case.measure, m, k);
+    let x = naive_walk::held(words, n, m, case.measure, k);
+    if x.failed == yes {
+        return compare_tallies::not_run();
+    }
+    compare_tallies::of_decision(yes, x.compositions, x.tests)
+}
+
+fn decision_case(
+    t: Tally,
+    name: &[u8],
+    case: Case,
+    words: &[u32],
+    k: usize,
+    area: &mut [u32],
+) -> Tally
+    requires { ⌜ Held case (now words) × ((1 ≤ k) × (k ≤ case .picks)) ⌝ }
+{
+    let end = case.picks * case.boards;
+    let d = decision::decide(case.boards, case.measure, &words[0..end], k, area);
+    let got = compare_tallies::decided(d);
+    let wanted = naive_decision(words, case, k);
+    compare_tallies::compared(t, name, compare_tallies::at_part(case, k), got, wanted)
+}
+
+// Every k from 1 to the number of picks: no recording here has more than 40.
+fn decision_cases(t: Tally, name: &[u8], case: Case, words: &[u32], area: &mut [u32]) -> Tally
+    requires { ⌜ Held case (now words) ⌝ }
+{
+    let end = case.picks + 1;
+    let mut sum = t;
+    for k in 1..end {
+        sum = decision_case(sum, name, case, words, k, area);
+    }
+    sum
+}
+
 // ---- the table of reach
 
 // The first row that the two do not have alike; 0 where there is none.
@@ -136,7 +182,7 @@ pub fn whole_of(case: Case, words: &[u32], area: &mut [u32]) -> Outcome {
     run_whole(c, words, area)
 }
 
-// The cases of one kind: one, or one for each pick.
+// The cases of one kind: one, or one for each pick or window length.
 pub fn run(
     kind: Kind,
     t: Tally,
@@ -159,6 +205,7 @@ pub fn run(
         Kind::Whole => whole_case(t, name, c, words, area),
         Kind::Picks => compare_walks::pick_cases(t, name, c, words, area),
         Kind::Counts => counts_case(t, name, c, words, area),
+        Kind::Decisions => decision_cases(t, name, c, words, area),
         Kind::Tables => table_case(t, name, c, words, area),
     }
 }

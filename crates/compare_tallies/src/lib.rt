@@ -1,5 +1,6 @@
 // Groups of cases counted, and a line for each mismatch. Whatever a call answers is four numbers here, so that all are compared alike.
 use calls::Answer;
+use decision::Decision;
 use libc::STDOUT_FILENO;
 use reach::Tabled;
 
@@ -15,12 +16,14 @@ pub enum Kind {
     Whole,
     Picks,
     Counts,
+    Decisions,
     Tables,
 }
 
 // What a table of edges is for.
 pub enum Call {
     Whole,
+    Decide,
     Table,
     Open,
     Read,
@@ -78,7 +81,7 @@ pub fn at_part(case: Case, part: usize) -> Case {
 
 // ---- outcomes
 
-// A length or a word of a table, the refusal, and the counts. 0 is none.
+// A length, a word of a table, or 1 for yes; the refusal, and the counts. 0 is none, and no.
 pub struct Outcome {
     pub value: usize,
     pub refusal: usize,
@@ -138,6 +141,17 @@ pub fn of_length(l: usize, compositions: usize, tests: usize) -> Outcome {
     }
 }
 
+// Yes or no with its counts.
+pub fn of_decision(yes: bool, compositions: usize, tests: usize) -> Outcome {
+    let value = if yes { 1usize } else { 0usize };
+    Outcome {
+        value: value,
+        refusal: 0,
+        compositions: compositions,
+        tests: tests,
+    }
+}
+
 pub fn answered(a: Answer) -> Outcome {
     match a {
         Answer::Length(l, c, t) => Outcome {
@@ -152,6 +166,14 @@ pub fn answered(a: Answer) -> Outcome {
             compositions: c.0,
             tests: t.0,
         },
+    }
+}
+
+pub fn decided(d: Decision) -> Outcome {
+    match d {
+        Decision::Yes(c, t) => of_decision(true, c.0, t.0),
+        Decision::No(c, t) => of_decision(false, c.0, t.0),
+        Decision::Refused(r) => refused(model::number_of(r)),
     }
 }
 
@@ -180,6 +202,7 @@ fn print_kind(kind: Kind) {
         Kind::Whole => print(b"whole"),
         Kind::Picks => print(b"picks"),
         Kind::Counts => print(b"counts"),
+        Kind::Decisions => print(b"decisions"),
         Kind::Tables => print(b"tables"),
     }
 }
@@ -187,6 +210,7 @@ fn print_kind(kind: Kind) {
 fn print_call(call: Call) {
     match call {
         Call::Whole => print(b"whole"),
+        Call::Decide => print(b"decide"),
         Call::Table => print(b"table"),
         Call::Open => print(b"open"),
         Call::Read => print(b"read"),

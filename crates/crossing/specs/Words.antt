@@ -5,11 +5,13 @@ use lib.Dec.{eqb, leb}
 use Rattle.model.specs.Journey.{val}
 use Rattle.place.specs.declared.Place.{Place}
 use Rattle.calls.specs.Answers.{Handed, Outcome}
+use Rattle.decision.specs.Decisions.{Decided}
 use Rattle.recording.specs.Answers.{Read}
 use Rattle.crossing.specs.declared.PlaceWords.{PlaceWords}
 use Rattle.crossing.specs.declared.HandedWords.{HandedWords}
 use Rattle.crossing.specs.declared.AnswerWords.{AnswerWords}
 use Rattle.crossing.specs.declared.MeasuredWords.{MeasuredWords}
+use Rattle.crossing.specs.declared.DecisionWords.{DecisionWords}
 use Rattle.crossing.specs.declared.ReadingWords.{ReadingWords}
 
 -- ---- places
@@ -59,6 +61,9 @@ answerWords o = record { refusal = o .refusal; length = o .length; compositions 
 abbrev pub measuredWords : Outcome → PlaceWords → MeasuredWords
 measuredWords o p = record { refusal = o .refusal; length = o .length; compositions = o .compositions; tests = o .tests; place = p }
 
+abbrev pub decisionWords : Decided → DecisionWords
+decisionWords d = record { refusal = d .refusal; yes = val (d .yes); compositions = d .compositions; tests = d .tests }
+
 abbrev pub readingWords : Read → ReadingWords
 readingWords r = record { refusal = r .refusal; boards = r .boards; picks = r .picks }
 
@@ -78,3 +83,7 @@ pub record NarrowAnswer (o : Outcome) : Type 0 where
   pub length : o .length < 2 ^ 32
   pub compositions : o .compositions < 2 ^ 32
   pub tests : o .tests < 2 ^ 32
+
+pub record NarrowDecision (d : Decided) : Type 0 where
+  pub compositions : d .compositions < 2 ^ 32
+  pub tests : d .tests < 2 ^ 32

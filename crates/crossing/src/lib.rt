@@ -4,8 +4,10 @@ ghost use Prim.Native.Nat.{_<_, _^_};
 ghost use Rattle.model.specs.Journey.{val};
 ghost use Rattle.model.specs.Refusals.{number};
 ghost use Rattle.calls.specs.Answers.{answerSays};
-ghost use Rattle.crossing.specs.Words.{flag, flags, placeOf, wordsOf, answerWords, Narrow, NarrowAnswer};
+ghost use Rattle.decision.specs.Decisions.{decisionSays};
+ghost use Rattle.crossing.specs.Words.{flag, flags, placeOf, wordsOf, answerWords, decisionWords, Narrow, NarrowAnswer, NarrowDecision};
 use calls::Answer;
+use decision::Decision;
 use model::Compositions;
 use model::Pick;
 use model::Refusal;
@@ -55,6 +57,15 @@ pub struct MeasuredWords {
     pub compositions: u32,
     pub tests: u32,
     pub place: PlaceWords,
+}
+
+// What a decision answers: yes is 1 where every window passes, else 0.
+#[repr(C)]
+pub struct DecisionWords {
+    pub refusal: u32,
+    pub yes: u32,
+    pub compositions: u32,
+    pub tests: u32,
 }
 
 // What the reader answers: boards and picks 0 where the file is refused.
@@ -172,6 +183,32 @@ pub fn answer_words(a: Answer) -> AnswerWords
             length: 0,
             compositions: narrow(c.0),
             tests: narrow(t.0),
+        },
+    }
+}
+
+pub fn decision_words(d: Decision) -> DecisionWords
+    requires { ⌜ NarrowDecision (decisionSays d) ⌝ }
+    ensures { λ r. ⌜ r ≡ decisionWords (decisionSays d) ⌝ }
+{
+    match d {
+        Decision::Yes(c, t) => DecisionWords {
+            refusal: 0,
+            yes: 1,
+            compositions: narrow(c.0),
+            tests: narrow(t.0),
+        },
+        Decision::No(c, t) => DecisionWords {
+            refusal: 0,
+            yes: 0,
+            compositions: narrow(c.0),
+            tests: narrow(t.0),
+        },
+        Decision::Refused(r) => DecisionWords {
+            refusal: cause_word(r),
+            yes: 0,
+            compositions: 0,
+            tests: 0,
         },
     }
 }

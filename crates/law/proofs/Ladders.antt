@@ -1,6 +1,6 @@
 -- The ladders, on the words of the area: whatever the walk tests is the window from s to m. The kit is a parameter; all that is asked of it is `Law`.
 -- Assumes nothing.
-use mathlib.Core.Path.{_≡_, sym, ap, ap₂, _∙_}
+use mathlib.Core.Path.{_≡_, refl, sym, ap, ap₂, _∙_}
 use mathlib.Core.Logic.{_≢_, inl, inr, ⊎-elim}
 use mathlib.Core.List.{List}
 use Prim.Native.Nat.{ℕ, zero, suc, _+_, _-_, _*_, _≤_, _<_}
@@ -10,16 +10,26 @@ use mathlib.Core.Bool.{Bool, true, false}
 use lib.ListN.{length}
 use lib.Dec.{T, leb, ltb, leb→le, ltb→lt, lt→ltb}
 use Rattle.model.proofs.Logic.{eq-or, not-le}
+use Rattle.measures.specs.Kit.{Kit}
 use Rattle.area.specs.Parts.{table, partSize, part, tableAt, composeAt}
 use Rattle.place.specs.Places.{picksTaken, startMoved, boundaryMoved, charged, tested}
 use Rattle.steps.specs.Walk.{State, state, ladder, written, rebuilt, joinedArea, joined, extendedBy, extended, entered, windowArea, windowed, judged}
-use Rattle.steps.specs.Walk.{tried, cleared, raisedBy, raised}
+use Rattle.steps.specs.Walk.{far, tried, cleared, raisedBy, raised}
 use Rattle.steps.proofs.Frames.{frame-tables, frame-room, ladder-length, ladder-out, written-frame, rebuilt-frame, joined-frame, tried-frame, cleared-frame}
 use Rattle.area.proofs.Laws.{own-same, compose-same, compose-other, copy-same, zero-same, zero-other}
 use Rattle.law.specs.Ladders.{mOf, sOf, bOf, limitOf, WindowTables, holds, Law, Framed, Laddered, Unjoined}
 
 pub not-lt : (m n : ℕ) → (T (ltb m n) → ⊥) → n ≤ m
 not-lt m n f = let g : m < n → ⊥ = λ h. f (lt→ltb m n h) in omega arith
+
+-- a pick entered leaves the mark of a failure
+pub entered-failed : (K : Kit) (k : ℕ) (w : List ℕ) (st : State) → entered K k w st .place .marks .failed ≡ st .place .marks .failed
+unfolding entered extended extendedBy rebuilt joined charged boundaryMoved written startMoved picksTaken
+entered-failed K k w st = go (far (written K k w st .place))
+  where
+    go : (x : Bool) → extendedBy K x (written K k w st) .place .marks .failed ≡ st .place .marks .failed
+    go true = refl
+    go false = refl
 
 module _ (X : WindowTables) (law : Law X) where
   open WindowTables X using (kit as K, own, win, list as l, most as M)

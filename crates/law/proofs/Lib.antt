@@ -7,7 +7,9 @@ pub mod Ladders
 pub mod MinWalk
 pub mod MaxWalk
 pub mod Walks
+pub mod Held
 pub mod Online
 pub mod Whole
 pub mod Longer
+pub mod Decisions
 pub mod Condition3Runs

@@ -1,5 +1,5 @@
--- Windows of more picks, and footprints with the same links: what passes passes. For every limit and turn-round, but for `passes-up`, which is document
--- 01's. Assumes nothing.
+-- Windows of more picks, and footprints with the same links: what passes passes. For every limit and turn-round, but for `passes-monotone` and
+-- `passes-up`, which are document 01's. Assumes nothing.
 use mathlib.Core.Path.{refl}
 use mathlib.Core.Logic.{_↔_, Iff·symm, Iff·trans}
 use mathlib.Core.List.{List, _++_}
@@ -8,7 +8,7 @@ use native.Mathlib.Omega.{arith}
 use lib.Dec.{T}
 use lib.ListN.{length}
 use Rattle.model.specs.Recording.{link, Recording}
-use Rattle.model.specs.Journey.{Limit, atMost}
+use Rattle.model.specs.Journey.{Limit}
 use Rattle.model.specs.Length.{Smallest, Upward}
 use Rattle.model.proofs.Lengths.{Agree, Inside, upward-agree}
 use Rattle.model.proofs.Shifted.{Shifted, shifted-back, shifted-left, shifted-right, common-shifted, footprint-shifted, reach-shifted, round-shifted}
@@ -24,13 +24,25 @@ is-smallest zero h = absurd (omega arith)
 is-smallest (suc zero) h = absurd (omega arith)
 is-smallest (suc (suc x)) h = (λ s. s, λ s. s)
 
+-- which way passing is monotone goes by which windows pass
+monotone-agree : {measure : ℕ} {P Q : ℕ → ℕ → Type 0} {m : ℕ} → Agree P Q m → Monotone measure P m → Monotone measure Q m
+monotone-agree e (minimises x y up) = minimises x y (upward-agree e up)
+monotone-agree e (maximises y down) = maximises y
+    (λ i j a b p q r s t f. e a b (omega arith) r (omega arith) .0 (down i j a b p q r s t (e i j p (omega arith) t .1 f)))
+
+pub passes-monotone : (n measure : ℕ) (footprint : List ℕ) (r : List (List ℕ)) → n ≤ 32 → 1 ≤ measure → measure ≤ 4 → Recording n r
+    → Fits measure footprint r n → Monotone measure (Passes measure n footprint r) (length r)
+passes-monotone n measure footprint r few low high k fit =
+    monotone-agree (passes-agree n few r k turn01 measure footprint footprint (λ e. refl))
+    (facts hops01 turn01 n few r k measure low high footprint fit .monotone)
+
 -- where a window passes under measures 2 to 4, any window around it does
 pub passes-up : (n measure : ℕ) (footprint : List ℕ) (r : List (List ℕ)) → n ≤ 32 → 2 ≤ measure → measure ≤ 4 → Recording n r → Fits measure footprint r n
     → Upward (Passes measure n footprint r) (length r)
-passes-up n measure footprint r few low high k fit = go (facts hops01 turn01 n few r k measure (omega arith) high footprint fit .monotone)
+passes-up n measure footprint r few low high k fit = go (passes-monotone n measure footprint r few (omega arith) high k fit)
   where
-    go : Monotone measure (PassesWith (atMost hops01) turn01 measure n footprint r) (length r) → Upward (Passes measure n footprint r) (length r)
-    go (minimises x e up) = upward-agree (passes-agree n few r k turn01 measure footprint footprint (λ e. refl)) up
+    go : Monotone measure (Passes measure n footprint r) (length r) → Upward (Passes measure n footprint r) (length r)
+    go (minimises x e up) = up
     go (maximises e down) = absurd (omega arith)
 
 module _ (L : Limit) (turn : ℕ) where

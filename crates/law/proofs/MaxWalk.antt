@@ -9,19 +9,20 @@ use native.Mathlib.Omega.{arith}
 use mathlib.Core.Bool.{Bool, true, false, _&&_, not, cond}
 use mathlib.Core.Option.{none, some}
 use lib.Dec.{T, eqb, ltb, ltb→lt, lt→ltb, T-not, not-T}
-use Rattle.model.proofs.Logic.{T→≡, eq-or, cases, or-l, or-r, or-cases, and-l, and-r, and-both, cond-ind}
+use Rattle.model.proofs.Logic.{tr, T→≡, eq-or, cases, or-l, or-r, or-cases, and-l, and-r, and-both, cond-ind}
 use Rattle.model.proofs.Bits.{val-le}
 use Rattle.model.specs.Length.{Every, Downward}
 use Rattle.model.specs.Journey.{val}
 use Rattle.place.specs.Places.{picksTaken, startMoved, boundaryMoved, charged, tested}
-use Rattle.steps.specs.Walk.{State, state, written, rebuilt, joined, extendedBy, extended, entered, onLeft, onRight, windowed, judged, tried, cleared}
+use Rattle.steps.specs.Walk.{State, state, rebuilt, entered, windowed, judged, tried, cleared}
 use Rattle.steps.specs.Walk.{raisedBy, raised, again, climb, climbed, ended, maxStep, reported}
 use Rattle.area.proofs.Laws.{zero-same, zero-length}
-use Rattle.steps.proofs.Grown.{tried-grown, raised-grown}
+use Rattle.steps.proofs.Grown.{tried-grown, entered-grown, raised-grown}
 use Rattle.law.specs.Ladders.{mOf, sOf, bOf, limitOf, WindowTables, holds, Law, Decides, Laddered}
-use Rattle.law.specs.Invariants.{Fails, MaxAnswer, MaxGoing, atEnd, MaxEnded, MaxInvariant, MaxKeepsClaim, MaxReportsClaim}
-use Rattle.law.proofs.Ladders.{not-lt, entered-by, raised-laddered, tried-tests, cleared-laddered, cleared-window}
-use Rattle.law.proofs.MinWalk.{cost-far, cost-near, rise-far, rise-near}
+use Rattle.law.specs.Correct.{Fails}
+use Rattle.law.specs.Invariants.{MaxAnswer, MaxGoing, atEnd, MaxEnded, MaxInvariant, MaxKeepsClaim, MaxReportsClaim}
+use Rattle.law.proofs.Ladders.{entered-failed, entered-by, raised-laddered, tried-tests, cleared-laddered, cleared-window}
+use Rattle.law.proofs.MinWalk.{TestWithin, entered-cost, rise-far, rise-near}
 
 val-no : (b : Bool) → (T b → ⊥) → val b ≡ 0
 val-no true f = absurd (f tt)
@@ -50,7 +51,7 @@ pub record MaxUntested (X : WindowTables) (P : ℕ → ℕ → Type 0) (st : Sta
   pub above : T (st .place .marks .failed) → Fails P (mOf st) (mOf st + 2 - sOf st)
   pub whole : (T (st .place .marks .failed) → ⊥) → sOf st ≡ 1
   pub count-tests : st .place .counts .tests .0 + 1 + 1 ≤ mOf st + sOf st
-  pub count-comps : st .place .counts .compositions .0 + val (onLeft (st .place) && onRight (st .place)) ≤ (sOf st - 1) + 2 * (mOf st - 1) + (bOf st - 1)
+  pub count-comps : TestWithin (sOf st - 1) st
 
 -- and after it
 pub record MaxTested (X : WindowTables) (P : ℕ → ℕ → Type 0) (st : State) : Type 0 where
@@ -100,39 +101,26 @@ module _ (X : WindowTables) (law : Law X) (P : ℕ → ℕ → Type 0) (right : 
   rows true s m f w i j a b c d = f i j a b (omega arith) (omega arith)
   rows false s m f w i j a b c d = let e = w (λ t. t) in f i j a b (omega arith) (omega arith)
 
-  untested-by : (x : Bool) (w : List ℕ) (st : State) → MaxGoing X P st → mOf st + 1 ≤ M
-      → (T x → bOf st + 1 < sOf st + val (st .place .marks .failed)) → ((T x → ⊥) → sOf st + val (st .place .marks .failed) ≤ bOf st + 1)
-      → Laddered X (extendedBy K x (written K (val (st .place .marks .failed)) w st))
-      → MaxUntested X P (extendedBy K x (written K (val (st .place .marks .failed)) w st))
-  unfolding extendedBy rebuilt joined charged boundaryMoved written startMoved picksTaken
-  untested-by true w st a z hi lo ch =
-      let p = st .place in
+  untested-on : (w : List ℕ) (st : State) → MaxGoing X P st → Laddered X (entered K (val (st .place .marks .failed)) w st)
+      → MaxUntested X P (entered K (val (st .place .marks .failed)) w st)
+  untested-on w st a ch =
+      let x = st .place .marks .failed in
+      let g = entered-grown K (val x) w st in
+      let gm = g .taken in
+      let gs = g .start in
+      let gt = g .tests in
+      let same = entered-failed K (val x) w st in
       let s1 = a .ladders .frame .start in
-      let f = hi tt in
+      let ahead = a .ahead in
       let ct = a .count-tests in
       record {
         ladders = ch;
-        inside = a .ahead;
-        earlier = rows (p .marks .failed) (sOf st) (mOf st) (a .upto) (a .whole);
-        above = λ x. let v : val (p .marks .failed) ≡ 1 = ap val (T→≡ (p .marks .failed) x) in fails-on P (a .above x) (omega arith) (omega arith);
-        whole = λ x. let v = val-no (p .marks .failed) x in let g = a .whole x in omega arith;
+        inside = omega arith;
+        earlier = λ i j y z u v. rows x (sOf st) (mOf st) (a .upto) (a .whole) i j y z (omega arith) (omega arith);
+        above = λ t. let f = tr same t in let v : val x ≡ 1 = ap val (T→≡ x f) in fails-on P (a .above f) (omega arith) (omega arith);
+        whole = λ t. let f : T x → ⊥ = λ y. t (tr (sym same) y) in let v = val-no x f in let h = a .whole f in omega arith;
         count-tests = omega arith;
-        count-comps = le-trans (cost-far (p .counts .compositions .0) (bOf st) (mOf st) (sOf st + val (p .marks .failed)) (sOf st - 1) (a .ladders .bound) f
-            (a .ahead) (a .count-comps)) (omega arith);
-      }
-  untested-by false w st a z hi lo ch =
-      let p = st .place in
-      let s1 = a .ladders .frame .start in
-      let ct = a .count-tests in
-      record {
-        ladders = ch;
-        inside = a .ahead;
-        earlier = rows (p .marks .failed) (sOf st) (mOf st) (a .upto) (a .whole);
-        above = λ x. let v : val (p .marks .failed) ≡ 1 = ap val (T→≡ (p .marks .failed) x) in fails-on P (a .above x) (omega arith) (omega arith);
-        whole = λ x. let v = val-no (p .marks .failed) x in let g = a .whole x in omega arith;
-        count-tests = omega arith;
-        count-comps = le-trans (cost-near (p .counts .compositions .0) (bOf st) (mOf st) (sOf st + val (p .marks .failed)) (sOf st - 1) (a .ladders .bound)
-            (omega arith) (lo (λ t. t)) (a .count-comps)) (omega arith);
+        count-comps = le-trans (entered-cost K (val x) w st (sOf st - 1) (a .ladders .bound) s1 ahead (a .count-comps)) (omega arith);
       }
 
   -- ---- the start rises after a failure
@@ -264,7 +252,7 @@ module _ (X : WindowTables) (law : Law X) (P : ℕ → ℕ → Type 0) (right : 
       climb-keeps k (tried K (raised K st)) (omega arith) (omega arith) (raised-on st z t (omega arith) a))
 
 pub max-keeps : MaxKeepsClaim
-unfolding maxStep climbed entered extended written startMoved picksTaken atEnd
+unfolding maxStep climbed picksTaken atEnd
 max-keeps X law P right down w st z u e (inl a) =
     let K = X .kit in
     let p = st .place in
@@ -274,13 +262,11 @@ max-keeps X law P right down w st z u e (inl a) =
     (λ t. absurd (T-not (p .marks .passed) (and-r (ltb 0 (mOf st)) (not (p .marks .passed)) t)
     (a .good (ltb→lt 0 (mOf st) (and-l (ltb 0 (mOf st)) (not (p .marks .passed)) t)))))
     (λ t.
-    let b = bOf st in
-    let s = sOf st + k in
     let g = entered-by X law k w st (a .ladders) z u e (a .ahead) in
     let few = g .1 in
     let q0 = tried-grown K q .taken in
-    climb-keeps X law P right down (mOf (tried K q) - sOf (tried K q)) (tried K q) (omega arith) refl (tried-on X law P right down q few
-    (untested-by X law P right down (ltb (b + 1) s) w st a z (λ t. ltb→lt (b + 1) s t) (λ t. not-lt (b + 1) s t) (g .0))))
+    climb-keeps X law P right down (mOf (tried K q) - sOf (tried K q)) (tried K q) (omega arith) refl
+    (tried-on X law P right down q few (untested-on X law P right down w st a (g .0))))
 max-keeps X law P right down w st z u e (inr a) =
     let K = X .kit in
     let p = st .place in

@@ -2,7 +2,7 @@
 -- most 3(m - 1) compositions, and the parts hold what document 01 says. The kit is a parameter. Assumes nothing.
 use Prim.Native.Nat.{ℕ, zero, suc, _+_, _-_, _*_, _≤_, _<_}
 use native.Mathlib.Omega.{arith}
-use mathlib.Core.Path.{_≡_, sym, ap, _∙_, subst}
+use mathlib.Core.Path.{_≡_, sym, _∙_, subst}
 use mathlib.Core.Bool.{Bool, true, false, _&&_, not, cond}
 use lib.Dec.{T, leb, ltb, ltb→lt, eqb}
 use Rattle.model.proofs.Logic.{and-r, eq-or, and-both, cond-ind}
@@ -13,13 +13,16 @@ use native.Mathlib.Nat.{le-refl}
 use mathlib.Core.Option.{none, some}
 use Rattle.model.proofs.Bits.{val-le}
 use Rattle.model.specs.Length.{Every, Upward}
+use Rattle.measures.specs.Kit.{Kit}
 use Rattle.place.specs.Places.{picksTaken, startMoved, boundaryMoved, charged, tested}
 use Rattle.steps.specs.Walk.{State, written, rebuilt, joined, extendedBy, extended, entered, onLeft, onRight, windowed, judged, tried, cleared}
 use Rattle.steps.specs.Walk.{minStep, reported}
 use Rattle.steps.proofs.Enough.{join-charge, window-charge}
+use Rattle.steps.proofs.Grown.{entered-grown}
 use Rattle.area.proofs.Laws.{zero-same}
 use Rattle.law.specs.Ladders.{mOf, sOf, bOf, limitOf, WindowTables, Law, Decides, Laddered}
-use Rattle.law.specs.Invariants.{Fails, MinAnswer, MinInvariant, MinKeepsClaim, MinReportsClaim}
+use Rattle.law.specs.Correct.{Fails}
+use Rattle.law.specs.Invariants.{MinAnswer, MinInvariant, MinKeepsClaim, MinReportsClaim}
 use Rattle.law.proofs.Ladders.{not-lt, entered-by, tried-tests, cleared-laddered, cleared-window}
 
 -- ---- what a pick and a rise cost at most, on numbers alone
@@ -30,14 +33,34 @@ full-left s m = omega (arith, window-charge s m m)
 
 -- A new pick with its test costs at most two more; or, where b becomes m, what building the left ladder costs. So the whole stays within
 -- twice the picks after the first, and once the boundary, and c.
-pub cost-far : (comps b m s c : ℕ) → b ≤ m → b + 1 < s → s ≤ m + 1 → comps ≤ c + 2 * (m - 1) + (b - 1)
+cost-far : (comps b m s c : ℕ) → b ≤ m → b + 1 < s → s ≤ m + 1 → comps ≤ c + 2 * (m - 1) + (b - 1)
     → comps + (m + 1 - s) + val (leb s (m + 1) && ltb (m + 1) (m + 1)) ≤ c + 2 * (m + 1 - 1) + (m + 1 - 1)
 cost-far comps b m s c bd far l h = omega (arith, full-left s (m + 1))
 
-pub cost-near : (comps b m s c : ℕ) → b ≤ m → 1 ≤ s → s ≤ b + 1 → comps ≤ c + 2 * (m - 1) + (b - 1)
+cost-near : (comps b m s c : ℕ) → b ≤ m → 1 ≤ s → s ≤ b + 1 → comps ≤ c + 2 * (m - 1) + (b - 1)
     → comps + val (ltb (b + 1) (m + 1)) + val (leb s b && ltb b (m + 1)) ≤ c + 2 * (m + 1 - 1) + (b - 1)
 cost-near comps b zero s c bd a near h = omega (arith, join-charge b (0 + 1), window-charge s b (0 + 1))
 cost-near comps b (suc m) s c bd a near h = omega (arith, val-le (ltb (b + 1) (suc m + 1)), val-le (leb s b && ltb b (suc m + 1)))
+
+-- so of a pick that the ladders take in: its test, still to come, is counted
+abbrev pub TestWithin : ℕ → State → Type 0
+TestWithin c q = q .place .counts .compositions .0 + val (onLeft (q .place) && onRight (q .place)) ≤ c + 2 * (mOf q - 1) + (bOf q - 1)
+
+module _ (K : Kit) (k : ℕ) (w : List ℕ) (st : State) (c : ℕ) where
+  cost-by : (x : Bool) → (T x → bOf st + 1 < sOf st + k) → ((T x → ⊥) → sOf st + k ≤ bOf st + 1) → bOf st ≤ mOf st → 1 ≤ sOf st → sOf st + k ≤ mOf st + 1
+      → st .place .counts .compositions .0 ≤ c + 2 * (mOf st - 1) + (bOf st - 1) → TestWithin c (extendedBy K x (written K k w st))
+  unfolding extendedBy rebuilt joined charged boundaryMoved written startMoved picksTaken
+  cost-by true hi lo bd s1 ahead h = cost-far (st .place .counts .compositions .0) (bOf st) (mOf st) (sOf st + k) c bd (hi tt) ahead h
+  cost-by false hi lo bd s1 ahead h =
+      cost-near (st .place .counts .compositions .0) (bOf st) (mOf st) (sOf st + k) c bd (omega arith) (lo (λ t. t)) h
+
+  pub entered-cost : bOf st ≤ mOf st → 1 ≤ sOf st → sOf st + k ≤ mOf st + 1
+      → st .place .counts .compositions .0 ≤ c + 2 * (mOf st - 1) + (bOf st - 1) → TestWithin c (entered K k w st)
+  unfolding entered extended written startMoved picksTaken
+  entered-cost =
+      let b = bOf st in
+      let s = sOf st + k in
+      cost-by (ltb (b + 1) s) (λ t. ltb→lt (b + 1) s t) (λ t. not-lt (b + 1) s t)
 
 -- a rise within a pick, with its test, costs at most one more; or what building the left ladder costs
 pub rise-far : (comps b m s c : ℕ) → b ≤ m → b + 1 < s + 1 → s < m → comps ≤ c + 2 * (m - 1) + (b - 1)
@@ -83,39 +106,29 @@ pub record MinEntered (X : WindowTables) (P : ℕ → ℕ → Type 0) (c : ℕ) 
   pub before : (i : ℕ) → 1 ≤ i → i < sOf st → P i (i + (mOf st - sOf st))
   pub below : sOf st < mOf st → Fails P (mOf st) (mOf st - sOf st)
   pub count-tests : st .place .counts .tests .0 + 1 ≡ mOf st
-  pub count-comps : st .place .counts .compositions .0 + val (onLeft (st .place) && onRight (st .place)) ≤ c + 2 * (mOf st - 1) + (bOf st - 1)
+  pub count-comps : TestWithin c st
 
 module _ (X : WindowTables) (law : Law X) (P : ℕ → ℕ → Type 0) (right : Decides X P) (up : Upward P (X .most)) (c : ℕ) where
   open WindowTables X using (kit as K, own, win, list as l, most as M)
 
-  entered-on : (x : Bool) (w : List ℕ) (st : State) → MinInvariant X P c st → mOf st + 1 ≤ M
-      → (T x → bOf st + 1 < sOf st + val (st .place .marks .passed)) → ((T x → ⊥) → sOf st + val (st .place .marks .passed) ≤ bOf st + 1)
-      → Laddered X (extendedBy K x (written K (val (st .place .marks .passed)) w st))
-      → MinEntered X P c (extendedBy K x (written K (val (st .place .marks .passed)) w st))
-  unfolding extendedBy rebuilt joined charged boundaryMoved written startMoved picksTaken
-  entered-on true w st a z hi lo ch =
-      let p = st .place in
-      let f = hi tt in
-      record {
-        ladders = ch;
-        inside = a .ahead;
-        before = next-before P M up (p .marks .passed) (sOf st) (mOf st) z (a .ahead) (a .good) (a .before);
-        below = next-below P (p .marks .passed) (sOf st) (mOf st) (a .ladders .frame .start) (a .bad) (a .below);
-        count-tests = ap (λ (x : ℕ). x + 1) (a .count-tests);
-        count-comps = cost-far (p .counts .compositions .0) (bOf st) (mOf st) (sOf st + val (p .marks .passed)) c (a .ladders .bound) f (a .ahead)
-            (a .count-comps);
-      }
-  entered-on false w st a z hi lo ch =
-      let p = st .place in
+  entered-on : (w : List ℕ) (st : State) → MinInvariant X P c st → mOf st + 1 ≤ M → Laddered X (entered K (val (st .place .marks .passed)) w st)
+      → MinEntered X P c (entered K (val (st .place .marks .passed)) w st)
+  entered-on w st a z ch =
+      let x = st .place .marks .passed in
+      let g = entered-grown K (val x) w st in
+      let gm = g .taken in
+      let gs = g .start in
+      let gt = g .tests in
       let s1 = a .ladders .frame .start in
+      let ahead = a .ahead in
+      let ct = a .count-tests in
       record {
         ladders = ch;
-        inside = a .ahead;
-        before = next-before P M up (p .marks .passed) (sOf st) (mOf st) z (a .ahead) (a .good) (a .before);
-        below = next-below P (p .marks .passed) (sOf st) (mOf st) s1 (a .bad) (a .below);
-        count-tests = ap (λ (x : ℕ). x + 1) (a .count-tests);
-        count-comps = cost-near (p .counts .compositions .0) (bOf st) (mOf st) (sOf st + val (p .marks .passed)) c (a .ladders .bound) (omega arith)
-            (lo (λ t. t)) (a .count-comps);
+        inside = omega arith;
+        before = λ i y h. rw (gm, gs) (next-before P M up x (sOf st) (mOf st) z ahead (a .good) (a .before) i y (omega arith));
+        below = λ h. rw (gm, gs) (next-below P x (sOf st) (mOf st) s1 (a .bad) (a .below) (omega arith));
+        count-tests = omega arith;
+        count-comps = entered-cost K (val x) w st c (a .ladders .bound) s1 ahead (a .count-comps);
       }
 
   tried-keeps : (st : State) → mOf st ≤ M → MinEntered X P c st → MinInvariant X P c (cleared K (tried K st))
@@ -142,14 +155,11 @@ module _ (X : WindowTables) (law : Law X) (P : ℕ → ℕ → Type 0) (right : 
       }
 
 pub min-keeps : MinKeepsClaim
-unfolding minStep entered extended written startMoved picksTaken
+unfolding minStep
 min-keeps X law P right up c w st z t e a =
-    let b = bOf st in
     let k = val (st .place .marks .passed) in
-    let s = sOf st + k in
     let g = entered-by X law k w st (a .ladders) z t e (a .ahead) in
-    tried-keeps X law P right up c (entered (X .kit) k w st) (g .1)
-    (entered-on X law P right up c (ltb (b + 1) s) w st a z (λ t. ltb→lt (b + 1) s t) (λ t. not-lt (b + 1) s t) (g .0))
+    tried-keeps X law P right up c (entered (X .kit) k w st) (g .1) (entered-on X law P right up c w st a z (g .0))
 
 pub min-right : MinReportsClaim
 unfolding reported

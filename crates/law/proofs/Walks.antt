@@ -51,7 +51,7 @@ pub record Settled (s : Settings) (m : ℕ) (q : Place) : Type 0 where
 settled-on : {s : Settings} {q r : Place} {m k l : ℕ} → Settled s m q → Settled (q .settings) k r → k ≡ l → Settled s l r
 settled-on a b e = record { settings = b .settings ∙ a .settings; taken = b .taken ∙ e }
 
-grown-settled : {p q : Place} {m k c t l : ℕ} → Grown p q m k c t → p .window .taken .0 + m ≡ l → Settled (p .settings) l q
+pub grown-settled : {p q : Place} {m k c t l : ℕ} → Grown p q m k c t → p .window .taken .0 + m ≡ l → Settled (p .settings) l q
 grown-settled g e = record { settings = g .settings; taken = g .taken ∙ e }
 
 climb-settled : (K : Kit) (k : ℕ) (st : State) → Settled (st .place .settings) (mOf st) (climb K k st .place)
@@ -200,11 +200,11 @@ module _ (c : Course) where
   course-settled x k = let e = walked-settled (kitIn c) picks (start c x) k in let t = e .taken in record { settings = e .settings; taken = omega arith }
 
   -- the next pick's own table
+  pub own-at : {m k : ℕ} → m ≡ k → kitIn c .own (m + 1) (pickAt picks (suc k)) ≡ tables c .own (m + 1)
+  own-at {m} {k} e = let i : suc k ≡ m + 1 = omega arith in ap (λ (z : ℕ). kitIn c .own (m + 1) (pickAt picks z)) i
+
   pub own-next : (x k : ℕ) → kitIn c .own (mOf (st x k) + 1) (pickAt picks (suc k)) ≡ tables c .own (mOf (st x k) + 1)
-  own-next x k =
-      let t = course-settled x k .taken in
-      let i : suc k ≡ mOf (st x k) + 1 = omega arith in
-      ap (λ (z : ℕ). kitIn c .own (mOf (st x k) + 1) (pickAt picks z)) i
+  own-next x k = own-at (course-settled x k .taken)
 
   -- a place that cause 16 lets through
   sound-at : (x k : ℕ) → 1 ≤ k → k ≤ length picks → 1 ≤ sOf (st x k) → sOf (st x k) ≤ bOf (st x k) + 1 → bOf (st x k) ≤ mOf (st x k)

@@ -27,6 +27,15 @@ IsLength zero P m k = Smallest P m k
 IsLength (suc zero) P m k = Largest P m k
 IsLength (suc (suc x)) P m k = Smallest P m k
 
+-- a window of k of the picks 1 to m that fails
+pub record Fails (P : ℕ → ℕ → Type 0) (m k : ℕ) : Type 0 where
+  pub i : ℕ
+  pub j : ℕ
+  pub from : 1 ≤ i
+  pub upto : j ≤ m
+  pub row : suc j ≡ i + k
+  pub fails : P i j → ⊥
+
 -- the outcome is the length of the picks 1 to m, or 9 where there is none
 pub data Right (measure : ℕ) (P : ℕ → ℕ → Type 0) (m : ℕ) (o : Outcome) : Type 0 where
   answered : o .refusal ≡ 0 → IsLength measure P m (o .length) → Right measure P m o

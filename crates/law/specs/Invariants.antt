@@ -11,18 +11,10 @@ use Rattle.model.specs.Length.{Smallest, NoLength, Upward, Largest, Downward}
 use Rattle.model.specs.Journey.{val}
 use Rattle.place.specs.Places.{windowAs}
 use Rattle.steps.specs.Walk.{State, minStep, reported, state, maxStep}
+use Rattle.law.specs.Correct.{Fails}
 use Rattle.law.specs.Ladders.{mOf, sOf, bOf, limitOf, WindowTables, holds, Zero, Law, Decides, Laddered}
 use lib.ListN.{length}
 use Rattle.place.specs.declared.Place.{Place}
-
--- a window of row k that fails
-pub record Fails (P : ℕ → ℕ → Type 0) (m k : ℕ) : Type 0 where
-  pub i : ℕ
-  pub j : ℕ
-  pub from : 1 ≤ i
-  pub upto : j ≤ m
-  pub row : suc j ≡ i + k
-  pub fails : P i j → ⊥
 
 -- ---- minimisation: measures 2, 3 and 4
 

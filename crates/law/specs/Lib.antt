@@ -3,9 +3,11 @@
 pub mod Correct
 pub mod Claim2
 pub mod Claim3
+pub mod Decisions
 pub mod Condition3
 pub mod Faithful
 pub mod Facts
 pub mod Ladders
 pub mod Invariants
 pub mod Course
+pub mod Held

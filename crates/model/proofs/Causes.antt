@@ -63,6 +63,13 @@ causes-after [] ds n z e = e
 causes-after ((true, c) ∷ cs) ds n z e = let l = leb→le 1 c (and-l (leb 1 c) (numbered cs) n) in absurd (omega arith)
 causes-after ((false, c) ∷ cs) ds n z e = causes-after cs ds (and-r (leb 1 c) (numbered cs) n) z e
 
+-- where both together have none, each has none
+pub causes-none : (cs ds : Causes) → T (numbered cs) → firstOf (cs ++ ds) ≡ 0 → (firstOf cs ≡ 0) × (firstOf ds ≡ 0)
+causes-none cs ds n e =
+    let f : 1 ≤ firstOf cs → ⊥ = λ h. let g = causes-before cs ds h refl in omega arith in
+    let z : firstOf cs ≡ 0 = omega arith in
+    (z, causes-after cs ds n z refl ∙ e)
+
 -- membership as a test, which computes
 abbrev pub isAmong : ℕ → List ℕ → Bool
 isAmong x [] = false

@@ -1,8 +1,8 @@
--- 01's number of each cause.
+-- The number of each cause: 01's, and after 16 those of the requests.
 use Prim.Native.Nat.{ℕ}
 use Rattle.model.specs.declared.Refusal.{Refusal}
 use Rattle.model.specs.declared.Refusal.the-variants.{Boards, Measure, Picks, Room, Forbidden, Unlisted, Full, NoPick, NoLength, Shape, Command}
-use Rattle.model.specs.declared.Refusal.the-variants.{Stopped, Operands, Unchanged, Trailing, BadPlace}
+use Rattle.model.specs.declared.Refusal.the-variants.{Stopped, Operands, Unchanged, Trailing, BadPlace, WindowLength}
 
 abbrev pub number : Refusal → ℕ
 number Boards = 1
@@ -21,3 +21,4 @@ number Operands = 13
 number Unchanged = 14
 number Trailing = 15
 number BadPlace = 16
+number WindowLength = 17

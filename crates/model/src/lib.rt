@@ -15,7 +15,7 @@ pub struct Compositions(pub usize);
 // How many tests were made.
 pub struct Tests(pub usize);
 
-// The causes of 01, in the order of their numbers, 1 to 16; `number` in specs/Refusals.antt gives each its number.
+// The causes of 01, and of the requests after it, in the order of their numbers, 1 to 17; `number` in specs/Refusals.antt gives each its number.
 pub enum Refusal {
     // n not 2 to 32
     Boards,
@@ -50,9 +50,11 @@ pub enum Refusal {
     // place: n, measure or limit out of range, m above limit, b above m, s not 1 to b + 1, s above m when m is 1 or more,
     // a test marked as failed or as passed when m is 0, compositions above 4 × m or tests above 2 × m
     BadPlace,
+    // window length handed in 0 or above the number of picks
+    WindowLength,
 }
 
-// 01's number of a cause.
+// The number of a cause.
 pub fn number_of(cause: Refusal) -> usize
     ensures { λ r. ⌜ r ≡ number cause ⌝ }
 {
@@ -73,6 +75,7 @@ pub fn number_of(cause: Refusal) -> usize
         Refusal::Unchanged => 14,
         Refusal::Trailing => 15,
         Refusal::BadPlace => 16,
+        Refusal::WindowLength => 17,
     }
 }
 

@@ -256,8 +256,8 @@ pub fn passes(words: &[u32], n: usize, m: usize, measure: usize, a: usize, e: us
     }
 }
 
-// Whether every window of l of the first k picks passes.
-fn all_pass(words: &[u32], n: usize, m: usize, measure: usize, k: usize, l: usize) -> bool
+// Whether every window of l of the first k picks passes. Of all picks, it is the decision for the window length l.
+pub fn all_pass(words: &[u32], n: usize, m: usize, measure: usize, k: usize, l: usize) -> bool
     requires { ⌜ (n ≤ 32) × ((m ≤ 4096) × ((k ≤ 4096) × (l ≤ k))) ⌝ }
 {
     let starts = k - l + 1;

@@ -78,14 +78,14 @@ fn one_if(yes: bool) -> usize
     if yes { 1 } else { 0 }
 }
 
-// A new pick: m is one more, "s rises by one .., else stays", and the ladders take the pick in.
-fn entered(x: Numbers, rises: bool) -> Numbers
-    requires { ⌜ BehindPick x × ((x .m < 4096) × (x .s + one rises ≤ x .m + 1)) ⌝ }
+// A new pick: m is one more, the window starts at s, and the ladders take the pick in.
+fn entered(x: Numbers, s: usize) -> Numbers
+    requires { ⌜ BehindPick x × ((x .m < 4096) × ((1 ≤ s) × (s ≤ x .m + 1))) ⌝ }
     ensures { λ r. ⌜ InPick r × ((r .m ≡ x .m + 1) × ((r .compositions ≤ x .compositions + 4096) × (r .tests ≤ x .tests))) ⌝ }
 {
     extended(Numbers {
         m: x.m + 1,
-        s: x.s + one_if(rises),
+        s: s,
         ..x
     })
 }
@@ -124,7 +124,7 @@ fn smallest_step(words: &[u32], n: usize, picks: usize, measure: usize, x: Numbe
     requires { ⌜ (n ≤ 32) × ((picks ≤ 4096) × (BehindPick x × (x .m < 4096))) ⌝ }
     ensures { λ r. ⌜ BehindPick r × (r .m ≡ x .m + 1) ⌝ }
 {
-    tested(words, n, picks, measure, entered(x, x.passed))
+    tested(words, n, picks, measure, entered(x, x.s + one_if(x.passed)))
 }
 
 // ---- measure 1
@@ -175,7 +175,7 @@ fn largest_step(words: &[u32], n: usize, picks: usize, measure: usize, x: Number
     if is_over(x) {
         return Numbers { m: x.m + 1, ..x };
     }
-    let y = tested(words, n, picks, measure, entered(x, x.failed));
+    let y = tested(words, n, picks, measure, entered(x, x.s + one_if(x.failed)));
     climbed(words, n, picks, measure, y)
 }
 
@@ -226,4 +226,44 @@ pub fn length(measure: usize, x: Numbers) -> usize
         return x.m + 2 - x.s;
     }
     0
+}
+
+// ---- request A1 of 02: the window held at k
+
+// "The chains are those of document 01 with the window held at k": at pick p it starts at the greater of 1 and p - k + 1.
+fn held_start(p: usize, k: usize) -> usize
+    requires { ⌜ (1 ≤ k) × ((1 ≤ p) × (p ≤ 4096)) ⌝ }
+    ensures { λ r. ⌜ (1 ≤ r) × (r ≤ p) ⌝ }
+{
+    if k < p {
+        return p - k + 1;
+    }
+    1
+}
+
+// ".., testing from pick k on ..": no test before, then one a pick.
+fn held_step(words: &[u32], n: usize, picks: usize, measure: usize, k: usize, x: Numbers) -> Numbers
+    requires { ⌜ (n ≤ 32) × ((picks ≤ 4096) × ((1 ≤ k) × (BehindPick x × (x .m < 4096)))) ⌝ }
+    ensures { λ r. ⌜ BehindPick r × (r .m ≡ x .m + 1) ⌝ }
+{
+    let y = entered(x, held_start(x.m + 1, k));
+    if y.m < k {
+        return y;
+    }
+    tested(words, n, picks, measure, y)
+}
+
+// ".. and stopping at the first failure, .. plus the m - 1 of the list under measure 2." The answer is yes where no test has failed.
+pub fn held(words: &[u32], n: usize, picks: usize, measure: usize, k: usize) -> Numbers
+    requires { ⌜ (n ≤ 32) × ((1 ≤ picks) × ((picks ≤ 4096) × (1 ≤ k))) ⌝ }
+    ensures { λ r. ⌜ BehindPick r ⌝ }
+{
+    let mut x = first(list_cost(picks, measure));
+    for p in 0..picks {
+        if x.failed {
+            return x;
+        }
+        x = held_step(words, n, picks, measure, k, x);
+    }
+    x
 }

@@ -28,9 +28,12 @@ use Rattle.calls.specs.Fit.{Starts}
 use Rattle.calls.proofs.Taken.{taken-state, refused-state}
 use Rattle.calls.proofs.Opened.{opened-length}
 use Rattle.calls.proofs.Loops.{walked, whole-starts, list-cost, length-unions}
+use Rattle.decision.specs.Decisions.{decided, decisionVerdict, decisionReport, decideSays}
+use Rattle.decision.proofs.Verdicts.{decision-sound}
+use Rattle.decision.proofs.Held.{held-counts}
 use Rattle.crossing.specs.declared.PlaceWords.{PlaceWords}
 use Rattle.crossing.specs.declared.HandedWords.{HandedWords}
-use Rattle.crossing.specs.Words.{flags, placeOf, wordsOf, handedAs, handedWords, Narrow, NarrowAnswer}
+use Rattle.crossing.specs.Words.{flags, placeOf, wordsOf, handedAs, handedWords, Narrow, NarrowAnswer, NarrowDecision}
 use Rattle.crossing.proofs.Fits.{small, words-back}
 use Rattle.nookmallow.specs.Boundary.{pickAnswers, pickKeeps}
 
@@ -166,6 +169,28 @@ whole-narrow n measure w a =
     cond-ind NarrowAnswer (eqb (wholeVerdict n measure w a) 0) (wholeReport n measure (length w / n) w a) (outcome (wholeVerdict n measure w a) 0 0 0)
     (λ t. run-narrow n measure (length w / n) w a (whole-sound n measure w a (eqb→eq _ _ t)))
     (λ t. no-answer _)
+
+-- ---- decision
+
+run-decided : (n measure m k : ℕ) (w a : List ℕ) → Runs n measure m w a → 1 ≤ k → NarrowDecision (decisionReport n measure m w k a)
+unfolding decisionReport
+run-decided n measure m k w a r low =
+    let h = held-counts n measure m k w a r low in
+    let c = h .0 in
+    let t = h .1 in
+    let l = r .cap in
+    record { compositions = small (omega arith); tests = small (omega arith) }
+
+no-decision : (c : ℕ) → NarrowDecision (decided c false 0 0)
+no-decision c = record { compositions = lit< tt; tests = lit< tt }
+
+pub decide-narrow : (n measure : ℕ) (w : List ℕ) (k : ℕ) (a : List ℕ) → NarrowDecision (decideSays n measure w k a)
+unfolding decideSays
+decide-narrow n measure w k a =
+    let v = decisionVerdict n measure w k a in
+    cond-ind NarrowDecision (eqb v 0) (decisionReport n measure (length w / n) w k a) (decided v false 0 0)
+    (λ t. let s = decision-sound n measure w k a (eqb→eq _ _ t) in run-decided n measure (length w / n) k w a (whole-sound n measure w a (s .0)) (s .1))
+    (λ t. no-decision v)
 
 -- ---- answers as words, from what a call answered
 

@@ -2,12 +2,14 @@
 ghost use mathlib.Core.Path.{_≡_};
 ghost use Rattle.calls.specs.Calls.{openSays, openLeaves, wholeSays, wholeLeaves};
 ghost use Rattle.reach.specs.Tables.{tableVerdict, tableLeaves};
+ghost use Rattle.decision.specs.Decisions.{decideSays, decideLeaves};
 ghost use Rattle.recording.specs.Answers.{readSays, readLeaves};
-ghost use Rattle.crossing.specs.Words.{handedWords, answerWords, measuredWords, readingWords};
+ghost use Rattle.crossing.specs.Words.{handedWords, answerWords, measuredWords, decisionWords, readingWords};
 ghost use Rattle.nookmallow.specs.Boundary.{pickAnswers, pickKeeps, lengthAnswers};
 use calls::Opening;
 use calls::Taking;
 use crossing::AnswerWords;
+use crossing::DecisionWords;
 use crossing::HandedWords;
 use crossing::MeasuredWords;
 use crossing::PlaceWords;
@@ -117,6 +119,21 @@ pub extern "C" fn nookmallow_whole(
     ensures { λ r. ⌜ (r ≡ answerWords (wholeSays n measure (now (words .entry)) (now (area .entry)))) × (now (area .exit) ≡ wholeLeaves n measure (now (words .entry)) (now (area .entry))) ⌝ }
 {
     crossing::answer_words(calls::whole(n as usize, measure as usize, words, area))
+}
+
+// Whether every window of k picks passes, of a recording lent whole.
+#[no_mangle]
+pub extern "C" fn nookmallow_decide(
+    n: u32,
+    measure: u32,
+    words: &[u32],
+    k: u32,
+    area: &mut [u32],
+) -> DecisionWords
+    ensures { λ r. ⌜ (r ≡ decisionWords (decideSays n measure (now (words .entry)) k (now (area .entry)))) × (now (area .exit) ≡ decideLeaves n measure (now (words .entry)) k (now (area .entry))) ⌝ }
+{
+    let d = decision::decide(n as usize, measure as usize, words, k as usize, area);
+    crossing::decision_words(d)
 }
 
 // The table of reach of a recording lent whole, into the first n words of out.

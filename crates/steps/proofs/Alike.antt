@@ -23,7 +23,7 @@ use Rattle.place.specs.Places.{picksTaken, startMoved, boundaryMoved, charged, 
 use Rattle.steps.specs.Walk.{State, state, kitOf, ladder, rebuilt, more, joinedArea, joined, far, extendedBy, extended, written, entered}
 use Rattle.steps.specs.Walk.{onLeft, onRight, windowArea, windowed, judged, tried, cleared, minStep}
 use Rattle.steps.specs.Walk.{raisedBy, raised, again, climb, climbed, ended, maxStep, stepped}
-use Rattle.steps.specs.Fit.{Able, Fit, Takes}
+use Rattle.steps.specs.Fit.{Able, Fit, Entry, Takes}
 use Rattle.steps.specs.Alike.{Alike, finished}
 use Rattle.steps.proofs.Fit.{limit-of}
 use Rattle.steps.proofs.Grown.{entered-grown, tried-grown, raised-grown, again-grown}
@@ -508,6 +508,20 @@ to-alike {K} {st} {q} t =
             (s .footprint);
       },
     )
+
+-- a pick taken in
+pub alike-entered : (p : Place) (k : ℕ) (w a b : List ℕ) → Entry p k (length a) → Entry p k (length b) → p .settings .boards ≡ length w → Alike p a b
+    → Agrees (entered (kitOf (p .settings)) k w) p a b
+alike-entered p k w a b f g e x =
+    to-alike (entered-twin (kitOf (p .settings)) (kit-wide (p .settings .measure) (p .settings .boards)) k w p (from-alike p (f .able) (g .able) x)
+    (f .start) (f .top) (own-wide hops01 (p .settings .measure) (p .settings .boards) (p .window .taken .0 + 1) w (sym e)))
+
+-- a test
+pub alike-tried : (p : Place) (a b : List ℕ) {d e : ℕ} → Fit p (length a) d → Fit p (length b) e → Alike p a b
+    → Agrees (tried (kitOf (p .settings))) p a b
+alike-tried p a b f g x =
+    to-alike (tried-twin (kitOf (p .settings)) (kit-wide (p .settings .measure) (p .settings .boards)) p (from-alike p (f .able) (g .able) x)
+    (f .start) (f .inside) (f .top))
 
 -- A STEP, not after the end of measure 1: the areas are alike at its place, though the walk may end there.
 pub alike-going : (p : Place) (w a b : List ℕ) → Takes p (length a) (length w) → Takes p (length b) (length w) → finished p ≡ false → Alike p a b

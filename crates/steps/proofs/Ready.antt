@@ -181,19 +181,19 @@ stepped-framed p a w r h e =
     stepped-frame (kitOf (p .settings)) (kit-wide (p .settings .measure) (p .settings .boards)) w (state p a) (r .able .room) (r .start) (omega arith) h
     (own-wide hops01 (p .settings .measure) (p .settings .boards) (p .window .taken .0 + 1) w (sym e))
 
-pub ready-on : {p q : Place} {words : ℕ} → Stepped p q → Ready p words → Ready q words
-ready-on s r =
-    let g = s .grown in
+-- a place that took a pick, its start within b + 1 and within the picks taken, is ready again
+pub ready-on : {p q : Place} {words k c t : ℕ} → Grown p q 1 k c t → q .window .start .0 ≤ q .window .boundary .0 + 1
+    → q .window .start .0 ≤ q .window .taken .0 → Ready p words → Ready q words
+ready-on g near inside r =
     let m = g .taken in
-    let i = s .inside in
     let l = g .start in
     let rl = r .start in
     record {
       able = able-kept (g .settings) (r .able);
       start = omega arith;
-      near = s .near;
+      near = near;
       bound = g .bound (r .bound);
-      inside = λ x. i;
+      inside = λ x. inside;
       none-failed = λ z. absurd (omega arith);
       none-passed = λ z. absurd (omega arith);
     }

@@ -22,10 +22,10 @@ bareTried K st = state (tried K st .place) (cond (composes (st .place)) (tried K
 abbrev pub spared : Settings → Bool
 spared s = eqb (s .measure) 2 || (eqb (s .measure) 3 || eqb (s .measure) 4)
 
+-- one test under any measure
+unfoldable pub bareTested : Kit → State → State
+bareTested K st = cond (spared (st .place .settings)) (bareTried K st) (tried K st)
+
 -- one step
 unfoldable pub bareStep : Kit → List ℕ → State → State
 bareStep K w st = cond (spared (st .place .settings)) (bareTried K (entered K (val (st .place .marks .passed)) w st)) (stepped K w st)
-
--- one that keeps all parts, or only what a later step reads
-abbrev pub stepBy : Bool → Kit → List ℕ → State → State
-stepBy kept K w st = cond kept (stepped K w st) (bareStep K w st)

@@ -3,3 +3,4 @@ pub mod Walk
 pub mod Fit
 pub mod Alike
 pub mod Bare
+pub mod Modes

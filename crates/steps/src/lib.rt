@@ -11,8 +11,9 @@ ghost use Rattle.place.specs.Places.{perLadder};
 ghost use Rattle.area.specs.Parts.{composeAt, copyAt, zeroAt};
 ghost use Rattle.steps.specs.Walk.{state, kitOf, ladder, rebuilt, joined, extended, entered, windowed, judged, tried, raised, again, climbed};
 ghost use Rattle.steps.specs.Alike.{finished};
-ghost use Rattle.steps.specs.Bare.{bareTried, spared, stepBy};
-ghost use Rattle.steps.specs.Fit.{Able, In, Lends, Owns, Fit, firstPart, rise, Entry, Takes, Does};
+ghost use Rattle.steps.specs.Bare.{bareTried, spared};
+ghost use Rattle.steps.specs.Modes.{keptBy, heldBy, overBy, riseBy, untestedBy, stepBy, Enters};
+ghost use Rattle.steps.specs.Fit.{Able, In, Lends, Owns, Fit, firstPart, rise, Entry, Does};
 use model::Pick;
 use place::Place;
 
@@ -295,7 +296,45 @@ pub fn is_finished(p: Place) -> bool
     false
 }
 
-// ---- a pick taken
+// ---- how a step is made
+
+// `Kept`: every part then holds what 01 says, as after a call for a pick. `Unkept`: nobody looks at the area afterwards, as in a whole run. `Held(k)`: nor
+// here, and the window is held at k picks, as in a decision. One function makes all of them, so that what it calls is called from one place.
+pub enum Mode {
+    Kept,
+    Unkept,
+    Held(usize),
+}
+
+fn is_kept(mode: Mode) -> bool
+    ensures { λ r. ⌜ r ≡ keptBy mode ⌝ }
+{
+    match mode {
+        Mode::Kept => true,
+        Mode::Unkept => false,
+        Mode::Held(_) => false,
+    }
+}
+
+fn is_held(mode: Mode) -> bool
+    ensures { λ r. ⌜ r ≡ heldBy mode ⌝ }
+{
+    match mode {
+        Mode::Kept => false,
+        Mode::Unkept => false,
+        Mode::Held(_) => true,
+    }
+}
+
+// Whether a pick raises m only. Where the window is held none does: before pick k no test has passed, and that is no end.
+fn is_over(p: Place, mode: Mode) -> bool
+    ensures { λ r. ⌜ r ≡ overBy mode p ⌝ }
+{
+    if is_held(mode) {
+        return false;
+    }
+    is_finished(p)
+}
 
 // What the start moves by at a new pick: one, under measure 1 once a test has failed, under the others after a test that passed.
 fn moved_by(p: Place) -> usize
@@ -313,7 +352,31 @@ fn one_if(x: bool) -> usize
     if x { 1 } else { 0 }
 }
 
-// Whether the step ends with the test: the area is not kept, and the measure makes one test a pick.
+// The same in any mode: where the window is held at k, one once k picks are taken.
+fn rise_by(p: Place, mode: Mode) -> usize
+    ensures { λ r. ⌜ r ≡ riseBy mode p ⌝ }
+{
+    let m = p.window.taken;
+    match mode {
+        Mode::Kept => moved_by(p),
+        Mode::Unkept => moved_by(p),
+        Mode::Held(k) => one_if(k <= m.0),
+    }
+}
+
+// Whether the pick that was entered comes before the first test: before pick k, where the window is held at k.
+fn is_untested(q: Place, mode: Mode) -> bool
+    ensures { λ r. ⌜ r ≡ untestedBy mode q ⌝ }
+{
+    let m = q.window.taken;
+    match mode {
+        Mode::Kept => false,
+        Mode::Unkept => false,
+        Mode::Held(k) => m.0 < k,
+    }
+}
+
+// Whether the window is judged where it lies: the area is not kept, and the measure makes one test a pick.
 fn is_spared(p: Place, kept: bool) -> bool
     ensures { λ r. ⌜ r ≡ (not kept && spared (p .settings)) ⌝ }
 {
@@ -332,21 +395,31 @@ fn is_spared(p: Place, kept: bool) -> bool
     false
 }
 
-// The start moves on and one test follows; under measure 1 the start rises while tests fail, and after the end only m does. Where
-// the area is not kept, under measures 2 to 4, neither the window's part nor part limit + 4 is written for its own sake.
-pub fn step(p: Place, area: &mut [u32], words: &[u32], right: &mut [u32], kept: bool) -> Place
-    requires { ⌜ Takes p (length (now area)) (length (now words)) × Lends (p .settings) (length (now right)) ⌝ }
-    ensures { λ r. ⌜ Does (stepBy kept (kitOf (p .settings)) (now (words .entry))) p (now (area .entry)) r (now (area .exit)) ⌝ }
+// ---- a pick taken
+
+// A pick is entered, the start moved on, and one test follows; under measure 1 the start then rises while tests fail, and after the end only m does. Where the
+// area is not kept, under measures 2 to 4, neither the window's part nor part limit + 4 is written for its own sake. Where the window is held at k, no test
+// comes before pick k, and from then on the one test is all.
+pub fn step(p: Place, area: &mut [u32], words: &[u32], right: &mut [u32], mode: Mode) -> Place
+    requires { ⌜ Enters mode p (length (now area)) (length (now words)) × Lends (p .settings) (length (now right)) ⌝ }
+    ensures { λ r. ⌜ Does (stepBy mode (kitOf (p .settings)) (now (words .entry))) p (now (area .entry)) r (now (area .exit)) ⌝ }
 {
-    if is_finished(p) {
+    if is_over(p, mode) {
         return p.picks_taken(1);
     }
-    let k = moved_by(p);
-    let q = enter(p, area, words, right, k);
+    let by = rise_by(p, mode);
+    let q = enter(p, area, words, right, by);
+    if is_untested(q, mode) {
+        return q;
+    }
+    let kept = is_kept(mode);
     if is_spared(p, kept) {
         return judge_ladders(q, area, right);
     }
     let t = try_window(q, area, right);
+    if is_held(mode) {
+        return t;
+    }
     if p.settings.measure == 1 {
         let r = climb(t, area, right);
         clear_spare(p, area);

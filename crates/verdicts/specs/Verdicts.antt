@@ -65,6 +65,10 @@ wholeCauses n measure w a =
     ∷ (not (between 1 measure 4), 2)
     ∷ (lentCauses n w ++ runCauses n measure w (length w / n) a)
 
+-- what a window of k picks is asked, m being lent: 17
+abbrev pub windowCauses : ℕ → ℕ → Causes
+windowCauses k m = (not (between 1 k m), 17) ∷ []
+
 -- the first of them, 0 for none
 unfoldable pub openVerdict : ℕ → ℕ → ℕ → List ℕ → List ℕ → ℕ
 openVerdict n measure limit footprint a = firstOf (openCauses n measure limit footprint a)

@@ -8,7 +8,8 @@ ghost use Rattle.checks.specs.Checks.{listed};
 ghost use Rattle.measures.specs.Kit.{kit};
 ghost use Rattle.area.specs.Parts.{tableAt};
 ghost use Rattle.model.specs.Causes.{firstOf};
-ghost use Rattle.verdicts.specs.Verdicts.{needed, lentCauses, runCauses, openVerdict, pickVerdict, wholeVerdict, verdictSays};
+ghost use Rattle.verdicts.specs.Verdicts.{needed, lentCauses, runCauses, windowCauses};
+ghost use Rattle.verdicts.specs.Verdicts.{openVerdict, pickVerdict, wholeVerdict, verdictSays};
 use model::Refusal;
 use place::Place;
 
@@ -169,4 +170,16 @@ pub fn whole_verdict(n: usize, measure: usize, words: &[u32], area: &[u32]) -> V
         Verdict::Clear => run_verdict(n, measure, words, words.len() / n, area),
         Verdict::Refuse(c) => Verdict::Refuse(c),
     }
+}
+
+// ---- a window length
+
+// The cause of a window length k where m picks are lent: 17.
+pub fn window_verdict(k: usize, m: usize) -> Verdict
+    ensures { λ r. ⌜ verdictSays r ≡ firstOf (windowCauses k m) ⌝ }
+{
+    if !model::is_between(1, k, m) {
+        return Verdict::Refuse(Refusal::WindowLength);
+    }
+    Verdict::Clear
 }

@@ -7,6 +7,7 @@ use lib.ListN.{length}
 use Rattle.links.proofs.Picks.{lent-end, lent-part}
 use Rattle.steps.specs.Walk.{state, kitOf}
 use Rattle.steps.proofs.Fit.{lends-kept}
+use Rattle.steps.proofs.Closes.{takes-enters}
 use Rattle.calls.specs.Calls.{bareSteps}
 use Rattle.calls.proofs.Loops.{AfterPicks, along-start, along-takes, along-bare, along-finished, bare-none, bare-next, along-end}
 use borrow.Author.Needs.{needs}
@@ -74,7 +75,8 @@ step-requires c κs =
     let c6 = c5 .before in
     let s = c6 .before .before .before .before in
     let v = c6 .loop .inv in (
-      rw (lent-part (s .args .p .settings .boards) (c6 .loop .k) (s .args .words .now)) (along-takes (v .1) (c5 .loop-test .taken)),
+      rw (lent-part (s .args .p .settings .boards) (c6 .loop .k) (s .args .words .now))
+          (takes-enters _ _ refl (along-takes (v .1) (c5 .loop-test .taken))),
       lends-kept (v .1 .settings) (v .3) (s .pre .1),
     )
 

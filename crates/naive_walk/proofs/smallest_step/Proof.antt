@@ -11,4 +11,4 @@ returns c = (behind (c .tested .result) (search needs) (omega arith) (omega arit
 
 pub smallest-step-spec : {M : Type 1} → statement M
 smallest-step-spec =
-    tie.close (tie.spec (search needs) (search needs) returns)
+    tie.close (tie.spec (search needs) (search needs) (search needs) (search needs) returns)
