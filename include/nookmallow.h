@@ -300,7 +300,8 @@ nookmallow_answer nookmallow_whole(uint32_t n, uint32_t measure, const uint32_t 
  * wait of k picks is long enough; under measure 1 yes exactly where k is AT MOST the length, so a lasting set of links
  * can be counted on for k picks. Where there is no length (9), it is no for every k. Under measure 2 the list is all
  * links that are open at any pick. Yes speaks of the picks lent, and of no others; of a design of d picks that is
- * repeated lend at least k + d - 1 picks, round after round: then yes holds for every further round too, which is proved.
+ * repeated lend at least k + d - 1 picks, round after round: then yes holds for every further round too; that is
+ * proved.
  * The area needs NOOKMALLOW_AREA_WORDS(n, measure, m) words, whatever k is; they may hold anything, and are zero
  * afterwards, after yes and after no. Words beyond stay as they are. The windows are tested from the first on, and it
  * stops at the first that fails. The counts are the work done: at most 3 * (m - 1) compositions and m tests; measure 2
