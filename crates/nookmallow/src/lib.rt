@@ -130,7 +130,8 @@ pub extern "C" fn nookmallow_decide(
     k: u32,
     area: &mut [u32],
 ) -> DecisionWords
-    ensures { λ r. ⌜ (r ≡ decisionWords (decideSays n measure (now (words .entry)) k (now (area .entry)))) × (now (area .exit) ≡ decideLeaves n measure (now (words .entry)) k (now (area .entry))) ⌝ }
+    ensures { λ r. ⌜ (r ≡ decisionWords (decideSays n measure (now (words .entry)) k (now (area .entry))))
+        × (now (area .exit) ≡ decideLeaves n measure (now (words .entry)) k (now (area .entry))) ⌝ }
 {
     let d = decision::decide(n as usize, measure as usize, words, k as usize, area);
     crossing::decision_words(d)

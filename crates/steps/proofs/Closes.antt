@@ -1,5 +1,5 @@
 -- From the steps that code makes to the step of the walk. Assumes nothing.
-use Prim.Native.Nat.{ℕ, _+_, _≤_, _<_}
+use Prim.Native.Nat.{ℕ, _+_, _*_, _≤_, _<_}
 use native.Mathlib.Omega.{arith}
 use mathlib.Core.Path.{_≡_, refl, sym, ap, _∙_, subst}
 use mathlib.Core.Logic.{_≢_}
@@ -7,20 +7,21 @@ use mathlib.Core.Bool.{Bool, true, false, not, _&&_, false≢true, cond}
 use lib.Dec.{eqb, leb}
 use borrow.Author.Tests.{eq-eqb, ne-eqb, eqb-true, le-leb, lt-leb, ltb-true, ltb-false}
 use mathlib.Core.List.{List}
+use lib.ListN.{length}
 use Rattle.model.specs.Journey.{val}
 use Rattle.area.specs.Parts.{zeroAt}
 use Rattle.place.specs.declared.Settings.{Settings}
 use Rattle.place.specs.declared.Place.{Place}
-use Rattle.place.specs.Places.{picksTaken, startMoved}
+use Rattle.place.specs.Places.{picksTaken, startMoved, perLadder}
 use Rattle.steps.specs.Walk.{State, state, kitOf, entered, tried, cleared, minStep, raised, again, climbed, ended, maxStep, stepped}
 use Rattle.steps.specs.Alike.{finished}
 use Rattle.steps.specs.Bare.{spared, bareTried, bareTested, bareStep}
 use Rattle.steps.specs.declared.Mode.{Mode}
 use Rattle.steps.specs.declared.Mode.the-variants.{Kept, Unkept, Held}
 use Rattle.steps.specs.Modes.{heldRise, testedFrom, heldStep, keptBy, heldBy, overBy, riseBy, untestedBy, stepBy, Enters}
-use Rattle.steps.specs.Fit.{rise, Entry, Takes, Does}
-use Rattle.steps.proofs.Fit.{limit-of, one-le, does-at, does-kit}
-use Rattle.steps.proofs.Grown.{entered-grown, tried-grown, raised-grown}
+use Rattle.steps.specs.Fit.{Lends, Fit, rise, Entry, Takes, Does}
+use Rattle.steps.proofs.Fit.{limit-of, entry-by, one-le, does-at, does-kit}
+use Rattle.steps.proofs.Grown.{enter-tries, entered-grown, tried-grown, raised-grown, grown-lends}
 use Rattle.steps.proofs.Rises.{climbed-along}
 
 -- ---- by the measure
@@ -50,6 +51,14 @@ pub rise-one : (mode : Mode) (p : Place) {k : ℕ} → k ≡ riseBy mode p → k
 rise-one Kept p e = one-le (cond (eqb (p .settings .measure) 1) (p .marks .failed) (p .marks .passed)) e
 rise-one Unkept p e = one-le (cond (eqb (p .settings .measure) 1) (p .marks .failed) (p .marks .passed)) e
 rise-one (Held k) p e = one-le (leb k (p .window .taken .0)) e
+
+-- the pick that is entered may be tested, and what is lent for a copy still has the words of a table
+pub enters-tries : (p : Place) (a w : List ℕ) (mode : Mode) (k : ℕ) {links v n : ℕ} {q : Place} {b : List ℕ} → Enters mode p (length a) links
+    → k ≡ riseBy mode p → Does (entered (kitOf (p .settings)) k w) p a q b → length b ≡ length a → v ≡ n → Lends (p .settings) n
+    → Fit q (length b) (3 * perLadder + 1) × Lends (q .settings) v
+enters-tries p a w mode k f e d l g h =
+    let K = kitOf (p .settings) in
+    (enter-tries p a k w (entry-by e (f .entry)) d l, grown-lends (entered K k w) p a d (entered-grown K k w (state p a)) g h)
 
 -- where the window is not held it moves as in the walk
 pub rise-walked : (mode : Mode) (p : Place) {k : ℕ} → heldBy mode ≡ false → k ≡ riseBy mode p → k ≡ rise p

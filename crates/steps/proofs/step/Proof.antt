@@ -6,11 +6,11 @@ use native.Mathlib.Omega.{arith}
 use lib.Dec.{eqb}
 use borrow.Author.Tests.{eq-eqb, ne-eqb}
 use Rattle.place.proofs.Laws.{and-left, and-right}
-use Rattle.steps.specs.Walk.{entered, tried, ended, stepped, maxStep}
+use Rattle.steps.specs.Walk.{tried, ended, stepped, maxStep}
 use Rattle.steps.specs.Modes.{keptBy}
 use Rattle.steps.proofs.Fit.{fit-less, able-long, entry-by}
-use Rattle.steps.proofs.Grown.{enter-tries, try-climbs, entered-grown, tried-grown, grown-lends}
-use Rattle.steps.proofs.Closes.{rise-one, rise-walked, moves-max, moves-min, finished-live, max-closes, min-closes, entered-spared}
+use Rattle.steps.proofs.Grown.{try-climbs, tried-grown, grown-lends}
+use Rattle.steps.proofs.Closes.{enters-tries, rise-one, rise-walked, moves-max, moves-min, finished-live, max-closes, min-closes, entered-spared}
 use Rattle.steps.proofs.Closes.{does-walked, kept-one, over-walked, live-walked, untested-closes, judged-closes, held-closes}
 use borrow.Author.Needs.{needs}
 use Rattle.steps.proofs.step.Statement.{statement}
@@ -53,13 +53,11 @@ judge-ladders-requires c κs =
     let c11 = c4 .before .before .before .before .before .before .before in
     let c14 = c11 .before .before .before in
     let s = c14 .before .before .before .before .before .before in
-    let h = entry-by (c14 .rise-by .ensures) (s .pre .0 .entry) in
-    let r = enter-tries (s .args .p) (s .args .area .now) (c14 .rise-by .result) (s .args .words .now) h (c11 .enter .ensures) (c11 .enter .kept .1 .0) in
-    let l = grown-lends (entered _ _ _) (s .args .p) (s .args .area .now) (c11 .enter .ensures) (entered-grown _ _ _ _) (c11 .enter .kept .1 .1 .1 .0)
-    (s .pre .1) in
+    let f = enters-tries (s .args .p) (s .args .area .now) (s .args .words .now) (s .args .mode) (c14 .rise-by .result) (s .pre .0) (c14 .rise-by .ensures)
+    (c11 .enter .ensures) (c11 .enter .kept .1 .0) (c11 .enter .kept .1 .1 .1 .0) (s .pre .1) in
     let k = c4 .is-kept .result in (
-      fit-less 1 (omega arith) r,
-      l,
+      fit-less 1 (omega arith) (f .0),
+      f .1,
       entered-spared (s .args .p) (s .args .area .now) _ _ k (c11 .enter .ensures)
           (sym (c3 .is-spared .ensures) ∙ c .before .before .if3 .taken),
     )
@@ -96,11 +94,9 @@ try-window-requires c κs =
     let c11 = c .before .before .before .before .before .before .before .before .before .before .before in
     let c14 = c11 .before .before .before in
     let s = c14 .before .before .before .before .before .before in
-    let h = entry-by (c14 .rise-by .ensures) (s .pre .0 .entry) in
-    let r = enter-tries (s .args .p) (s .args .area .now) (c14 .rise-by .result) (s .args .words .now) h (c11 .enter .ensures) (c11 .enter .kept .1 .0) in
-    let l = grown-lends (entered _ _ _) (s .args .p) (s .args .area .now) (c11 .enter .ensures) (entered-grown _ _ _ _) (c11 .enter .kept .1 .1 .1 .0)
-    (s .pre .1) in
-    (fit-less 1 (omega arith) r, l)
+    let f = enters-tries (s .args .p) (s .args .area .now) (s .args .words .now) (s .args .mode) (c14 .rise-by .result) (s .pre .0) (c14 .rise-by .ensures)
+    (c11 .enter .ensures) (c11 .enter .kept .1 .0) (c11 .enter .kept .1 .1 .1 .0) (s .pre .1) in
+    (fit-less 1 (omega arith) (f .0), f .1)
 
 same-length-5 : tie.Need-same-length-5
 same-length-5 c =
@@ -135,12 +131,10 @@ climb-requires c κs =
     let c22 = c10 .before .before .before .before .before .before .before .before .before .before .before .before in
     let c25 = c22 .before .before .before in
     let s = c25 .before .before .before .before .before .before in
-    let h = entry-by (c25 .rise-by .ensures) (s .pre .0 .entry) in
-    let r = enter-tries (s .args .p) (s .args .area .now) (c25 .rise-by .result) (s .args .words .now) h (c22 .enter .ensures) (c22 .enter .kept .1 .0) in
-    let l = grown-lends (entered _ _ _) (s .args .p) (s .args .area .now) (c22 .enter .ensures) (entered-grown _ _ _ _) (c22 .enter .kept .1 .1 .1 .0)
-    (s .pre .1) in
-    let t = try-climbs _ _ r (c10 .try-window .ensures) (c10 .try-window .kept .1 .0) in
-    (t, grown-lends (tried _) _ _ (c10 .try-window .ensures) (tried-grown _ _) (c10 .try-window .kept .1 .1 .0) l)
+    let f = enters-tries (s .args .p) (s .args .area .now) (s .args .words .now) (s .args .mode) (c25 .rise-by .result) (s .pre .0) (c25 .rise-by .ensures)
+    (c22 .enter .ensures) (c22 .enter .kept .1 .0) (c22 .enter .kept .1 .1 .1 .0) (s .pre .1) in
+    let t = try-climbs _ _ (f .0) (c10 .try-window .ensures) (c10 .try-window .kept .1 .0) in
+    (t, grown-lends (tried _) _ _ (c10 .try-window .ensures) (tried-grown _ _) (c10 .try-window .kept .1 .1 .0) (f .1))
 
 clear-spare-requires : tie.Need-clear-spare-requires
 clear-spare-requires c κs =
