@@ -1,7 +1,8 @@
 // Tables of links between n boards, 2 to 32: n words, bit v of word u for the pair u, v. Words are taken as they are found.
 ghost use mathlib.Core.Path.{_≡_};
 ghost use mathlib.Core.Logic.{_≢_};
-ghost use Prim.Native.Nat.{_-_, _*_, _^_, _≤_, _<_};
+ghost use mathlib.Core.Bool.{false};
+ghost use Prim.Native.Nat.{ℕ, _-_, _*_, _^_, _≤_, _<_};
 ghost use lib.Dec.{T};
 ghost use lib.ListN.{length};
 ghost use Rattle.model.specs.Recording.{bit};
@@ -28,10 +29,10 @@ pub fn cleared(x: u32, b: Board) -> u32
     x & !(1u32 << v)
 }
 
-// A board of a set that has one: the first, but only that it is one is promised.
+// The first board of a set that has one.
 pub fn board_in(set: u32) -> usize
     requires { ⌜ set ≢ 0 ⌝ }
-    ensures { λ r. ⌜ (r < 32) × T (bit set r) ⌝ }
+    ensures { λ r. ⌜ (r < 32) × T (bit set r) × ((b : ℕ) → b < r → bit set b ≡ false) ⌝ }
 {
     u32::trailing_zeros(set) as usize
 }

@@ -9,8 +9,8 @@ use Rattle.model.specs.declared.Refusal.{Refusal}
 use Rattle.model.specs.declared.Refusal.the-variants as cause
 use Rattle.model.specs.Refusals.{number}
 
--- the numbers are 1 to 17
-pub number-range : (c : Refusal) → (1 ≤ number c) × (number c ≤ 17)
+-- the numbers are 1 to 18
+pub number-range : (c : Refusal) → (1 ≤ number c) × (number c ≤ 18)
 number-range cause.Boards = (omega arith, omega arith)
 number-range cause.Measure = (omega arith, omega arith)
 number-range cause.Picks = (omega arith, omega arith)
@@ -28,6 +28,7 @@ number-range cause.Unchanged = (omega arith, omega arith)
 number-range cause.Trailing = (omega arith, omega arith)
 number-range cause.BadPlace = (omega arith, omega arith)
 number-range cause.WindowLength = (omega arith, omega arith)
+number-range cause.FileRoom = (omega arith, omega arith)
 
 pub number-some : (c : Refusal) → eqb (number c) 0 ≡ false
 number-some c = ne-eqb (number c) 0 (λ e. omega (arith, number-range c .0))

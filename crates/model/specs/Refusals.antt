@@ -2,7 +2,7 @@
 use Prim.Native.Nat.{ℕ}
 use Rattle.model.specs.declared.Refusal.{Refusal}
 use Rattle.model.specs.declared.Refusal.the-variants.{Boards, Measure, Picks, Room, Forbidden, Unlisted, Full, NoPick, NoLength, Shape, Command}
-use Rattle.model.specs.declared.Refusal.the-variants.{Stopped, Operands, Unchanged, Trailing, BadPlace, WindowLength}
+use Rattle.model.specs.declared.Refusal.the-variants.{Stopped, Operands, Unchanged, Trailing, BadPlace, WindowLength, FileRoom}
 
 abbrev pub number : Refusal → ℕ
 number Boards = 1
@@ -22,3 +22,4 @@ number Unchanged = 14
 number Trailing = 15
 number BadPlace = 16
 number WindowLength = 17
+number FileRoom = 18

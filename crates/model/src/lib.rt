@@ -15,7 +15,7 @@ pub struct Compositions(pub usize);
 // How many tests were made.
 pub struct Tests(pub usize);
 
-// The causes of 01, and of the requests after it, in the order of their numbers, 1 to 17; `number` in specs/Refusals.antt gives each its number.
+// The causes of 01, and of the requests after it, in the order of their numbers, 1 to 18; `number` in specs/Refusals.antt gives each its number.
 pub enum Refusal {
     // n not 2 to 32
     Boards,
@@ -52,6 +52,8 @@ pub enum Refusal {
     BadPlace,
     // window length handed in 0 or above the number of picks
     WindowLength,
+    // output bytes fewer than the file has
+    FileRoom,
 }
 
 // The number of a cause.
@@ -76,6 +78,7 @@ pub fn number_of(cause: Refusal) -> usize
         Refusal::Trailing => 15,
         Refusal::BadPlace => 16,
         Refusal::WindowLength => 17,
+        Refusal::FileRoom => 18,
     }
 }
 

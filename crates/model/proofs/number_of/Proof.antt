@@ -10,6 +10,7 @@ number-of-spec =
     (tie.spec
     (search needs) (search needs) (search needs) (search needs) (search needs) (search needs) (search needs) (search needs) (search needs)
     (search needs) (search needs) (search needs) (search needs) (search needs) (search needs) (search needs) (search needs)
+    (search needs)
     (λ c. rw (c .enum-told .given .1))
     (λ c. rw (c .enum-told2 .given .1))
     (λ c. rw (c .enum-told3 .given .1))
@@ -26,4 +27,5 @@ number-of-spec =
     (λ c. rw (c .enum-told14 .given .1))
     (λ c. rw (c .enum-told15 .given .1))
     (λ c. rw (c .enum-told16 .given .1))
-    (λ c. rw (c .enum-told17 .given .1)))
+    (λ c. rw (c .enum-told17 .given .1))
+    (λ c. rw (c .enum-told18 .given .1)))
