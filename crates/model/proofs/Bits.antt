@@ -3,9 +3,9 @@ use mathlib.Core.Path.{_≡_, refl, sym, ap, ap₂, _∙_, subst}
 use Prim.Native.Nat.{ℕ, zero, suc, _-_, _*_, _+_, _/_, _%_, _^_, _≤_, _<_, suc-le-suc, min, max}
 use native.Mathlib.Nat.{le-of-suc-le-suc, not-suc-le-zero, mod-lt, div-div-eq-div-mul, pow-succ', div-one, div-eq-of-lt, zero-lt-suc}
 use native.Mathlib.Omega.{arith}
-use mathlib.Core.Bool.{Bool, true, false, _||_, _&&_, not}
+use mathlib.Core.Bool.{Bool, true, false, _||_, _&&_, not, cond}
 use lib.Dec.{T, eqb, eqb·zero-suc, eqb·suc-zero, eqb·suc-suc}
-use lib.Bits.{bitOr, bitAnd, or-step, and-step, or-shr, and-shr, or-add-and, and-le-l, and-le-r}
+use lib.Bits.{bitOr, bitAnd, bitXor, or-step, and-step, or-shr, and-shr, xor-shr, xor-mod, or-add-and, and-le-l, and-le-r}
 use lib.Arith.{digits-mod}
 use lib.Pow.{pow-pos}
 use Rattle.model.specs.Recording.{bit}
@@ -80,6 +80,33 @@ bit-and a b zero =
     ∙ digit-and (a % 2) (b % 2) (mod-lt a (zero-lt-suc 1)) (mod-lt b (zero-lt-suc 1)) ∙ sym (ap₂ _&&_ (bit-zero a) (bit-zero b))
 bit-and a b (suc k) =
     bit-suc (bitAnd a b) k ∙ ap (λ (x : ℕ). bit x k) (and-shr a b 1) ∙ bit-and (a / 2) (b / 2) k ∙ sym (ap₂ _&&_ (bit-suc a k) (bit-suc b k))
+
+-- the digits of two words, and of their difference
+abbrev Digit : ℕ → ℕ → Type 0
+Digit d e = eqb (bitXor d e) 1 ≡ cond (eqb d 1) (not (eqb e 1)) (eqb e 1)
+
+digit-xor : (d e : ℕ) → d < 2 → e < 2 → Digit d e
+digit-xor zero e h i = refl
+digit-xor (suc d) zero h i = let z : suc d ≡ 1 = omega arith in subst (λ (x : ℕ). Digit x 0) (sym z) refl
+digit-xor (suc d) (suc e) h i =
+    let y : suc d ≡ 1 = omega arith in
+    let z : suc e ≡ 1 = omega arith in
+    subst (λ (x : ℕ). Digit x (suc e)) (sym y) (subst (Digit 1) (sym z) refl)
+
+pub bit-xor : (a b k : ℕ) → bit (bitXor a b) k ≡ cond (bit a k) (not (bit b k)) (bit b k)
+unfolding bit
+bit-xor a b k =
+    ap (λ (d : ℕ). eqb d 1) (ap (λ (z : ℕ). z % 2) (xor-shr a b k) ∙ xor-mod (a / 2 ^ k) (b / 2 ^ k) 1)
+    ∙ digit-xor (a / 2 ^ k % 2) (b / 2 ^ k % 2) (mod-lt _ (zero-lt-suc 1)) (mod-lt _ (zero-lt-suc 1))
+
+-- a bit as a digit
+pub bit-digit : (w b : ℕ) → w / 2 ^ b % 2 ≡ val (bit w b)
+unfolding bit
+bit-digit w b = digit-val (w / 2 ^ b % 2) (mod-lt _ (zero-lt-suc 1))
+  where
+    digit-val : (d : ℕ) → d < 2 → d ≡ val (eqb d 1)
+    digit-val zero h = refl
+    digit-val (suc d) h = let z : suc d ≡ 1 = omega arith in subst (λ (x : ℕ). x ≡ val (eqb x 1)) (sym z) refl
 
 -- the word of bit b alone: `1 << b`
 pub bit-one : (b k : ℕ) → bit (2 ^ b) k ≡ eqb b k

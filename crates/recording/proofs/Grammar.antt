@@ -67,9 +67,9 @@ module _ (bytes : List ℕ) (n limit m : ℕ) (ps : List (List ℕ)) (end : ℕ)
 -- ---- what is spelled is read
 
 -- the picks are as what stands before them says
-record As (befores : List (List Act)) (picks : List (List ℕ)) : Type 0 where
-  many : length picks ≡ length befores
-  each : (k : ℕ) → k < length befores → (u v : ℕ) → link (getD picks k []) u v ≡ isOpen (getD befores k []) u v
+pub record As (befores : List (List Act)) (picks : List (List ℕ)) : Type 0 where
+  pub many : length picks ≡ length befores
+  pub each : (k : ℕ) → k < length befores → (u v : ℕ) → link (getD picks k []) u v ≡ isOpen (getD befores k []) u v
 
 as-more : {bs : List (List Act)} {ps : List (List ℕ)} {b : List Act} {p : List ℕ} → ((u v : ℕ) → link p u v ≡ isOpen b u v) → As bs ps
     → As (b ∷ bs) (p ∷ ps)
@@ -80,10 +80,10 @@ as-more {bs} {ps} {b} {p} h a = record { many = ap suc (a .many); each = by }
     by (suc k) l = a .each k (le-of-suc-le-suc l)
 
 -- the reading, with the picks that are to come
-record EndsAsTold (bytes : List ℕ) (n : ℕ) (picks : List (List ℕ)) (befores : List (List Act)) (o : Content) : Type 0 where
-  come : List (List ℕ)
-  as-told : As befores come
-  ends : o ≡ ended n (picks ++ come) (length bytes)
+pub record EndsAsTold (bytes : List ℕ) (n : ℕ) (picks : List (List ℕ)) (befores : List (List Act)) (o : Content) : Type 0 where
+  pub come : List (List ℕ)
+  pub as-told : As befores come
+  pub ends : o ≡ ended n (picks ++ come) (length bytes)
 
 module _ (bytes : List ℕ) (n limit : ℕ) where
   abbrev all : List (List ℕ) → Content
@@ -148,7 +148,7 @@ module _ (limit : ℕ) (bytes out : List ℕ) where
         few = omega (arith, r .few);
       }
 
-  read-whole : (r : Reads limit (length out) bytes) → EndsAsTold bytes (r .n) [] (befores [] (r .acts)) (readFile limit (length out) bytes)
+  pub read-whole : (r : Reads limit (length out) bytes) → EndsAsTold bytes (r .n) [] (befores [] (r .acts)) (readFile limit (length out) bytes)
   unfolding firstOr readFile spellFile
   read-whole r =
       let n = r .n in

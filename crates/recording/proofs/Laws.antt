@@ -26,7 +26,7 @@ use Rattle.recording.proofs.Sound.{EndedReading, ended-reading}
 
 -- ---- the words of picks over the front of the output
 
-length-words : (n : ℕ) (ps : List (List ℕ)) → Recording n ps → length (words ps) ≡ length ps * n
+pub length-words : (n : ℕ) (ps : List (List ℕ)) → Recording n ps → length (words ps) ≡ length ps * n
 unfolding words
 length-words n [] a = sym (zero-mul n)
 length-words n (p ∷ ps) a = rw (length-append, length-words n ps (a .1), a .0 .words .size) (omega (arith, suc-mul (length ps) n))
@@ -40,7 +40,7 @@ word-at n (q ∷ ps) rest (suc k) a h =
     rw (append-assoc, e, drop-append-add q (words ps ++ rest) (k * n)) (word-at n ps rest k (a .1) (le-of-suc-le-suc h))
 
 -- the words lent back are the picks
-lent-back : (n : ℕ) (ps : List (List ℕ)) (rest : List ℕ) → Recording n ps → (k : ℕ) → k ≤ length ps
+pub lent-back : (n : ℕ) (ps : List (List ℕ)) (rest : List ℕ) → Recording n ps → (k : ℕ) → k ≤ length ps
     → lentPicks n (words ps ++ rest) k ≡ take k ps
 unfolding lentPicks
 lent-back n ps rest a zero h = refl

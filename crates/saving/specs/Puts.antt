@@ -1,0 +1,24 @@
+-- What the functions that write promise.
+use mathlib.Core.Path.{_≡_}
+use mathlib.Core.Bool.{Bool}
+use mathlib.Core.List.{List, [], _∷_, _++_}
+use Prim.Native.Nat.{ℕ, _+_}
+use lib.ListN.{length}
+use Rattle.model.specs.Recording.{bit}
+use Rattle.lists.specs.Tab.{splice}
+use Rattle.recording.specs.Grammar.{Act, spell}
+use Rattle.saving.specs.File.{changes}
+
+-- the bytes of commands, one after the other
+unfoldable pub spelled : List Act → List ℕ
+spelled [] = []
+spelled (x ∷ xs) = spell x ++ spelled xs
+
+-- the bytes of the commands stand from `at` on, `behind` is the place behind them, and the other bytes are as they were
+pub record Puts (out after : List ℕ) (at behind : ℕ) (acts : List Act) : Type 0 where
+  pub place : behind ≡ at + length (spelled acts)
+  pub made : after ≡ splice at (length (spelled acts)) (spelled acts) out
+
+-- the links of a word that was so, and is so now, that open (true) or shut (false)
+abbrev pub Changed : Bool → ℕ → ℕ → ℕ → Type 0
+Changed x was is r = (b : ℕ) → bit r b ≡ changes x (bit was b) (bit is b)
