@@ -23,6 +23,8 @@ use Rattle.recording.specs.Answers.{readSays}
 use Rattle.recording.proofs.Causes.{file-numbers}
 use Rattle.recording.proofs.Laws.{refused-law}
 use Rattle.recording.proofs.Grammar.{reads-exactly, reads-as-written}
+use Rattle.saving.specs.Answers.{saveCauses, saveVerdict}
+use Rattle.saving.proofs.Causes.{save-says, save-exactly, save-refused}
 use Rattle.law.proofs.Whole.{refused-run-stays}
 use Rattle.numbers.proofs.Taken.{open-exactly, unlisted-verdict, open-unlisted, pick-exactly as picks-exactly, sixteen-exactly, eight-exactly, unlistedCauses}
 use Rattle.numbers.proofs.Taken.{whole-exactly as runs-exactly, decision-says, refused-decision, decision-exactly as decisions-exactly}
@@ -31,6 +33,7 @@ use Rattle.acceptance.specs.Condition1.{OpeningNumbers, ListUnread, Open
 use Rattle.acceptance.specs.Condition1.{WholeNumbers, TableNumbers, ReadingNumbers, OpeningRefused, PickRefused, WholeRefused, TableRefused}
 use Rattle.acceptance.specs.Condition1.{ReadingRefused, OpeningExactly, PickExactly, LengthSixteen, LengthEight, WholeExactly, TableExactly}
 use Rattle.acceptance.specs.Condition1.{ReadingExactly, ReadingAsWritten, WhatFitsIsTaken, DecisionNumbers, DecisionRefused, DecisionExactly}
+use Rattle.acceptance.specs.Condition1.{SavingNumbers, SavingRefused, SavingExactly}
 
 -- ---- which numbers a call gives; 0 is none
 
@@ -85,6 +88,10 @@ pub reading-numbers : ReadingNumbers
 unfolding readSays
 reading-numbers limit bytes out = file-numbers limit (length out) bytes
 
+pub saving-numbers : SavingNumbers
+unfolding saveVerdict
+saving-numbers n w out = rw (save-says n w out) (among (saveCauses n w out))
+
 -- ---- a refused call leaves everything as it was
 
 not-zero : (x : ℕ) → (x ≡ 0 → ⊥) → eqb x 0 ≡ false
@@ -118,6 +125,9 @@ table-refused n w out f = ap (λ (b : Bool). cond b (tableOf n w ++ drop n out) 
 pub reading-refused : ReadingRefused
 reading-refused = refused-law
 
+pub saving-refused : SavingRefused
+saving-refused = save-refused
+
 -- ---- the checks say exactly when: no cause refuses a call where its clauses hold, by the meaning, and only there
 
 pub opening-exactly : OpeningExactly
@@ -144,6 +154,9 @@ table-exactly n w out = tables-exactly n w out
 
 pub reading-exactly : ReadingExactly
 reading-exactly = reads-exactly
+
+pub saving-exactly : SavingExactly
+saving-exactly = save-exactly
 
 pub reading-as-written : ReadingAsWritten
 reading-as-written = reads-as-written

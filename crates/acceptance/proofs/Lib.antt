@@ -6,3 +6,4 @@ pub mod Cases
 pub mod Area
 pub mod Longer
 pub mod Decision
+pub mod Saving

@@ -17,6 +17,8 @@ use Rattle.decision.specs.Decisions.{decided, decisionVerdict, decideSays, deci
 use Rattle.reach.specs.Tables.{tableVerdict, tableLeaves}
 use Rattle.recording.specs.Answers.{readSays, readLeaves}
 use Rattle.recording.specs.Grammar.{Reads, AsWritten}
+use Rattle.saving.specs.Answers.{saved, saveSays, saveLeaves}
+use Rattle.saving.specs.May.{MaySave}
 use Rattle.law.specs.Claim2.{openState, EachTaken, Fits}
 use Rattle.numbers.specs.Checks.{MayOpen, MayTake, MayRun, MayDecide, MayTable}
 
@@ -63,6 +65,10 @@ abbrev pub ReadingNumbers : Type 0
 ReadingNumbers = (limit : ℕ) (bytes out : List ℕ) → Among (readSays limit bytes out .refusal)
     (3 ∷ 11 ∷ 12 ∷ 1 ∷ 4 ∷ 13 ∷ 14 ∷ 7 ∷ 15 ∷ 0 ∷ [])
 
+-- Saving gives 1, 10, 3, 5, 18 or none.
+abbrev pub SavingNumbers : Type 0
+SavingNumbers = (n : ℕ) (w out : List ℕ) → Among (saveSays n w out .refusal) (1 ∷ 10 ∷ 3 ∷ 5 ∷ 18 ∷ 0 ∷ [])
+
 -- ---- a refused call leaves everything as it was
 
 -- A refused opening hands back the place of zeros and noes, and leaves the area as it was.
@@ -90,6 +96,11 @@ TableRefused = (n : ℕ) (w out : List ℕ) → (tableVerdict n w out ≡ 0 → 
 -- So does a refused reading.
 abbrev pub ReadingRefused : Type 0
 ReadingRefused = (limit : ℕ) (bytes out : List ℕ) → (readSays limit bytes out .refusal ≡ 0 → ⊥) → readLeaves limit bytes out ≡ out
+
+-- A refused saving leaves every byte of the output as it was, and answers the number alone: length 0.
+abbrev pub SavingRefused : Type 0
+SavingRefused = (n : ℕ) (w out : List ℕ) → (saveSays n w out .refusal ≡ 0 → ⊥)
+    → (saveSays n w out ≡ saved (saveSays n w out .refusal) 0) × (saveLeaves n w out ≡ out)
 
 -- ---- the checks say exactly when: no cause refuses a call where its clauses hold, by the meaning, and only there
 
@@ -129,6 +140,10 @@ ReadingExactly = (limit : ℕ) (bytes out : List ℕ) → (readSays limit bytes 
 -- What is read is what the grammar says: n, as many picks as there are 50s, and at each just the links that are open then
 abbrev pub ReadingAsWritten : Type 0
 ReadingAsWritten = (limit : ℕ) (bytes out : List ℕ) (r : Reads limit (length out) bytes) → AsWritten limit bytes out (r .n) (r .acts)
+
+-- A sequence is saved exactly where `MaySave` holds.
+abbrev pub SavingExactly : Type 0
+SavingExactly = (n : ℕ) (w out : List ℕ) → (saveSays n w out .refusal ≡ 0) ↔ MaySave n w out
 
 -- WHAT FITS IS TAKEN. From every opening that its clauses let through, every recording over n boards within the limit, and under measure 2 within the
 -- footprint, is taken pick after pick. So the theorems of condition 2 are about something.

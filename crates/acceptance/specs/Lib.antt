@@ -4,13 +4,13 @@
 -- CONDITION 1
 --   "Every answer is .. or one of the numbered refusals of document 01, for all input whatsoever": the contracts of the calls, none with a `requires`,
 --       are equations with definitions that are total. Which numbers a call gives: Condition1.OpeningNumbers, PickNumbers, LengthNumbers, WholeNumbers,
---       DecisionNumbers, TableNumbers, ReadingNumbers. Exactly when none of them comes: Condition1.OpeningExactly, PickExactly, WholeExactly,
---       DecisionExactly, TableExactly, ReadingExactly; of the length call LengthSixteen, LengthEight. Which cause has which number, and which of several is
---       named, is read off the definitions, in 01's order: `verdicts/specs/Verdicts`, `calls/specs/Calls.lengthSays`, `decision/specs/Decisions`,
---       `reach/specs/Tables`, `commands/specs`
+--       DecisionNumbers, TableNumbers, ReadingNumbers, SavingNumbers. Exactly when none of them comes: Condition1.OpeningExactly, PickExactly, WholeExactly,
+--       DecisionExactly, TableExactly, ReadingExactly, SavingExactly; of the length call LengthSixteen, LengthEight. Which cause has which number, and which
+--       of several is named, is read off the definitions, in 01's order: `verdicts/specs/Verdicts`, `calls/specs/Calls.lengthSays`,
+--       `decision/specs/Decisions`, `reach/specs/Tables`, `commands/specs`, `saving/specs/Answers`
 --   "and it always comes": every function is proved to end
 --   "A refused pick changes neither the place record nor the work area": Condition1.PickRefused; the other calls: OpeningRefused, WholeRefused,
---       DecisionRefused, TableRefused, ReadingRefused
+--       DecisionRefused, TableRefused, ReadingRefused, SavingRefused
 -- CONDITION 2
 --   "After each pick taken .. each length equals the definition .. over all windows of the picks so far, .. and refusal 9 comes only when no such length
 --       exists": Condition2.PickByPick; that there are such picks: Condition1.WhatFitsIsTaken; picks, refused picks and length calls in any order:
@@ -29,8 +29,8 @@
 --
 -- 01, CONDITIONS FOR TAKING DELIVERY
 --   1, a promise for each input on result, place and each lent word: the contracts, equations with `calls/specs/Calls`, `decision/specs/Decisions`,
---       `reach/specs/Tables` and `recording/specs/Answers`, of which everything here speaks; what each part of the area holds, and which words are written
---       and read at all: Area; what is read of a file: Condition1.ReadingAsWritten
+--       `reach/specs/Tables`, `recording/specs/Answers` and `saving/specs/Answers`, of which everything here speaks; what each part of the area holds, and
+--       which words are written and read at all: Area; what is read of a file: Condition1.ReadingAsWritten
 --   2, versions that must be rejected: "right in its first window": Condition2.PickByPick, for every pick; "invented counts": Condition2.CountsPickByPick,
 --       CountsWhole; "9 before a pick is looked at": Condition2.InAnyOrder (8 while none is taken) and WholeRuns; "one fixed length or one fixed
 --       table": Condition2.PickByPick, WholeRuns, TableMarks; "leaves its area idle": Area.EachPart; "number 4 for everyone": Condition1.OpeningExactly and
@@ -49,6 +49,10 @@
 --       compositions and m tests, plus the m - 1 of the list under measure 2": Decision.Decisions; "with both counts": CountsHeld; "the area ends as after a
 --       length": DecisionZero, BeyondDecision; in whatever area: DecisionInAnyArea; beside the lengths: DecisionsAndLengths; 17, and "condition 1 of the
 --       mission takes in the answers that requests add": Condition1.DecisionNumbers, DecisionRefused, DecisionExactly
+--   A2, "Saving a recording": "With limit and output enough, the reader returns the same n and words from it", of a sequence without picks too:
+--       Saving.SavedReadsBack; every file that is saved is one that the reader takes, to its last byte: SavedIsTaken; read, saved and read again: ReadAndSaved;
+--       the order of its commands: SavedInOrder; "its length answered and later bytes left as they were": SavedBeyond; recording A: SavesA; bytes that
+--       are always enough: BytesEnough; 18, and nothing written: Condition1.SavingNumbers, SavingRefused, SavingExactly
 pub mod Condition1
 pub mod Condition2
 pub mod Condition3
@@ -56,3 +60,4 @@ pub mod Cases
 pub mod Area
 pub mod Longer
 pub mod Decision
+pub mod Saving

@@ -1,14 +1,15 @@
 -- The causes of the call: none holds exactly where the clauses do, and how code arrives at the answer. Assumes nothing.
 use mathlib.Core.Path.{_≡_, refl, sym, ap, _∙_}
 use mathlib.Core.Logic.{_↔_, ⊎-elim}
+use mathlib.Core.Bool.{Bool, true, false, not}
 use mathlib.Core.List.{List, [], _∷_}
 use Prim.Native.Nat.{ℕ, _*_, _/_, _%_, _≤_, _<_}
 use native.Mathlib.Nat.{div-add-mod', mul-mod-left, le-refl}
 use native.Mathlib.Omega.{arith}
 use borrow.Author.Tests.{ltb-false, lt-ltb, le-ltb, eqb-true, not-false, ne-eqb}
-use lib.Dec.{ltb}
+use lib.Dec.{eqb, ltb}
 use lib.ListN.{length}
-use Rattle.model.specs.Causes.{firstOf}
+use Rattle.model.specs.Causes.{between, Causes, firstOf}
 use Rattle.model.specs.Refusals.{number}
 use Rattle.model.specs.declared.Refusal.{Refusal}
 use Rattle.model.proofs.Causes.{cause-next, none-holds, between-says, holds-by, in-range, not-of-true}
@@ -21,29 +22,38 @@ use Rattle.saving.specs.declared.Saving.the-variants.{Written, Refused}
 use Rattle.saving.specs.Answers.{Saved, saved, savingSays, lentFile, saveCauses, saveVerdict, saveSays, saveLeaves}
 use Rattle.saving.specs.May.{LentSequence, MaySave}
 
+-- a later number: the test before it failed
+cause-past : (x : Bool) (c : ℕ) (cs : Causes) {r : ℕ} → (c ≡ r → ⊥) → firstOf ((x, c) ∷ cs) ≡ r → (x ≡ false) × (firstOf cs ≡ r)
+unfolding firstOf
+cause-past true c cs f e = absurd (f e)
+cause-past false c cs f e = (refl, e)
+
 module _ (n : ℕ) (w out : List ℕ) where
   abbrev bytes : List ℕ
   bytes = lentFile n w
 
   -- ---- the verdict
 
-  may-save : saveVerdict n w out ≡ 0 → MaySave n w out
-  unfolding saveVerdict
-  may-save e =
+  -- where the causes before 18 do not hold
+  lent-by : not (between 2 n 32) ≡ false → not (eqb (length w % n) 0) ≡ false → ltb 4096 (length w / n) ≡ false
+      → not (cleanPicks n w (length w / n)) ≡ false → LentSequence n w
+  lent-by b s p c =
       let m = length w / n in
-      let s = none-holds (saveCauses n w out) tt .0 e in
-      let z : length w % n ≡ 0 = eqb-true _ _ (not-false _ (s .1 .0)) in
+      let z : length w % n ≡ 0 = eqb-true _ _ (not-false _ s) in
       let d = div-add-mod' (length w) n in
       let q : length w ≡ m * n = omega arith in
       record {
-        lent = record {
-          boards = between-says 2 n 32 (holds-by refl (s .0));
-          words = q;
-          picks = ltb-false 4096 m (s .1 .1 .0);
-          recorded = lent-recording n w m (omega arith) (tr (sym (not-false (cleanPicks n w m) (s .1 .1 .1 .0))) tt) m (le-refl m);
-        };
-        room = ltb-false (length out) (length bytes) (s .1 .1 .1 .1 .0);
+        boards = between-says 2 n 32 (holds-by refl b);
+        words = q;
+        picks = ltb-false 4096 m p;
+        recorded = lent-recording n w m (omega arith) (tr (sym (not-false (cleanPicks n w m) c)) tt) m (le-refl m);
       }
+
+  may-save : saveVerdict n w out ≡ 0 → MaySave n w out
+  unfolding saveVerdict
+  may-save e =
+      let s = none-holds (saveCauses n w out) tt .0 e in
+      record { lent = lent-by (s .0) (s .1 .0) (s .1 .1 .0) (s .1 .1 .1 .0); room = ltb-false (length out) (length bytes) (s .1 .1 .1 .1 .0) }
 
   -- of a lent sequence only 18 is asked
   but-room : LentSequence n w → saveVerdict n w out ≡ firstOf ((ltb (length out) (length bytes), 18) ∷ [])
@@ -84,12 +94,23 @@ module _ (n : ℕ) (w out : List ℕ) where
   pub save-exactly : (saveSays n w out .refusal ≡ 0) ↔ MaySave n w out
   save-exactly = (λ e. may-save (sym save-says ∙ e), λ s. save-says ∙ clear s)
 
+  -- 18 comes after the others
+  pub eighteen-lent : saveSays n w out .refusal ≡ 18 → LentSequence n w
+  unfolding saveVerdict
+  eighteen-lent e =
+      let p1 = cause-past _ 1 _ (λ z. omega arith) (sym save-says ∙ e) in
+      let p2 = cause-past _ 10 _ (λ z. omega arith) (p1 .1) in
+      let p3 = cause-past _ 3 _ (λ z. omega arith) (p2 .1) in
+      let p4 = cause-past _ 5 _ (λ z. omega arith) (p3 .1) in
+      lent-by (p1 .0) (p2 .0) (p3 .0) (p4 .0)
+
   -- of a lent sequence it is refused by 18, or not at all
   pub save-room : LentSequence n w → (saveSays n w out .refusal ≡ 18 → ⊥) → MaySave n w out
   save-room s f =
       record {
         lent = s;
-        room = ⊎-elim (λ (h : length bytes ≤ length out). h) (λ (h : length out < length bytes). absurd (f (save-says ∙ short s h))) (le-or-lt (length bytes) (length out));
+        room = ⊎-elim (λ (h : length bytes ≤ length out). h) (λ (h : length out < length bytes). absurd (f (save-says ∙ short s h)))
+            (le-or-lt (length bytes) (length out));
       }
 
   -- a call that is not refused: how many bytes, and which

@@ -13,12 +13,12 @@ use Rattle.model.specs.Recording.{link, Clean}
 use Rattle.model.proofs.Logic.{F→≡, le-or-lt}
 use Rattle.model.proofs.Links.{link-from, link-to}
 use Rattle.recording.specs.Grammar.{Act, sets, pick, isOpen, befores, Follow}
-use Rattle.saving.specs.File.{each, changes, linkActs, rowActs, tableActs, changeActs}
+use Rattle.saving.specs.File.{each, becomes, linkActs, rowActs, tableActs, changeActs}
 use Rattle.saving.proofs.Follows.{after, after-append, follow-append, befores-append}
 
 -- ---- the links h on the way from f to g, those before the link from a to k passed
 
-record Part (f g : ℕ → ℕ → Bool) (a k : ℕ) (h : ℕ → ℕ → Bool) : Type 0 where
+record Partway (f g : ℕ → ℕ → Bool) (a k : ℕ) (h : ℕ → ℕ → Bool) : Type 0 where
   above : (u v : ℕ) → u < a → h u v ≡ g u v
   left : (v : ℕ) → v < k → h a v ≡ g a v
   right : (v : ℕ) → k ≤ v → h a v ≡ f a v
@@ -39,7 +39,7 @@ set-apart x e a b u v h = rw (ne-eqb a u (λ q. h (sym q)))
 
 module _ {f g : ℕ → ℕ → Bool} {a k : ℕ} where
   -- a link that stays
-  part-stay : {h : ℕ → ℕ → Bool} → Part f g a k h → f a k ≡ g a k → Part f g a (suc k) h
+  part-stay : {h : ℕ → ℕ → Bool} → Partway f g a k h → f a k ≡ g a k → Partway f g a (suc k) h
   part-stay p e =
       record {
         above = p .above;
@@ -49,7 +49,7 @@ module _ {f g : ℕ → ℕ → Bool} {a k : ℕ} where
       }
 
   -- a link that is set
-  part-set : (e : List Act) (x : Bool) → Part f g a k (isOpen e) → g a k ≡ x → Part f g a (suc k) (isOpen (sets x a k ∷ e))
+  part-set : (e : List Act) (x : Bool) → Partway f g a k (isOpen e) → g a k ≡ x → Partway f g a (suc k) (isOpen (sets x a k ∷ e))
   part-set e x p q =
       record {
         above = λ u v l. set-apart x e a k u v (λ z. omega arith) ∙ p .above u v l;
@@ -63,11 +63,11 @@ module _ {f g : ℕ → ℕ → Bool} {a k : ℕ} where
 
 record Leads (n : ℕ) (e xs : List Act) (f g : ℕ → ℕ → Bool) (a k : ℕ) : Type 0 where
   follow : Follow n e xs
-  part : Part f g a k (isOpen (after e xs))
+  part : Partway f g a k (isOpen (after e xs))
   -- no pick is among them
   none : befores e xs ≡ []
 
-leads-none : (n : ℕ) {e : List Act} {f g : ℕ → ℕ → Bool} {a k : ℕ} → Part f g a k (isOpen e) → Leads n e [] f g a k
+leads-none : (n : ℕ) {e : List Act} {f g : ℕ → ℕ → Bool} {a k : ℕ} → Partway f g a k (isOpen e) → Leads n e [] f g a k
 unfolding Follow befores
 leads-none n p = record { follow = tt; part = p; none = refl }
 
@@ -81,19 +81,19 @@ leads-on n {e} xs ys l m =
     }
 
 -- the links that change so are those in which f and g differ; beyond n boards they are alike
-record Turns (x : Bool) (old new : List ℕ) (n : ℕ) (f g : ℕ → ℕ → Bool) : Type 0 where
-  apart : (a b : ℕ) → changes x (link old a b) (link new a b) ≡ true → a ≢ b
-  before : (a b : ℕ) → changes x (link old a b) (link new a b) ≡ true → f a b ≡ not x
-  behind : (a b : ℕ) → changes x (link old a b) (link new a b) ≡ true → g a b ≡ x
-  stays : (a b : ℕ) → changes x (link old a b) (link new a b) ≡ false → f a b ≡ g a b
+record Differ (x : Bool) (old new : List ℕ) (n : ℕ) (f g : ℕ → ℕ → Bool) : Type 0 where
+  apart : (a b : ℕ) → becomes x (link old a b) (link new a b) ≡ true → a ≢ b
+  before : (a b : ℕ) → becomes x (link old a b) (link new a b) ≡ true → f a b ≡ not x
+  behind : (a b : ℕ) → becomes x (link old a b) (link new a b) ≡ true → g a b ≡ x
+  stays : (a b : ℕ) → becomes x (link old a b) (link new a b) ≡ false → f a b ≡ g a b
   beyond : (a b : ℕ) → (n ≤ a) ⊎ (n ≤ b) → f a b ≡ g a b
 
-module _ {x : Bool} {old new : List ℕ} {n : ℕ} {f g : ℕ → ℕ → Bool} (t : Turns x old new n f g) where
-  one : (a k : ℕ) (e : List Act) → a < n → k < n → Part f g a k (isOpen e) → Leads n e (linkActs x old new a k) f g a (suc k)
+module _ {x : Bool} {old new : List ℕ} {n : ℕ} {f g : ℕ → ℕ → Bool} (t : Differ x old new n f g) where
+  one : (a k : ℕ) (e : List Act) → a < n → k < n → Partway f g a k (isOpen e) → Leads n e (linkActs x old new a k) f g a (suc k)
   unfolding linkActs
-  one a k e h i p = by (changes x (link old a k) (link new a k)) refl
+  one a k e h i p = by (becomes x (link old a k) (link new a k)) refl
     where
-      by : (y : Bool) → changes x (link old a k) (link new a k) ≡ y → Leads n e (cond y (sets x a k ∷ []) []) f g a (suc k)
+      by : (y : Bool) → becomes x (link old a k) (link new a k) ≡ y → Leads n e (cond y (sets x a k ∷ []) []) f g a (suc k)
       by true q =
           record {
             follow = unfold Follow in
@@ -103,14 +103,14 @@ module _ {x : Bool} {old new : List ℕ} {n : ℕ} {f g : ℕ → ℕ → Bool} 
           }
       by false q = leads-none n (part-stay p (t .stays a k q))
 
-  row : (a : ℕ) (e : List Act) → a < n → Part f g a 0 (isOpen e) → (k : ℕ) → k ≤ n → Leads n e (each (linkActs x old new a) k) f g a k
+  row : (a : ℕ) (e : List Act) → a < n → Partway f g a 0 (isOpen e) → (k : ℕ) → k ≤ n → Leads n e (each (linkActs x old new a) k) f g a k
   unfolding each
   row a e h p zero i = leads-none n p
   row a e h p (suc k) i =
       let l = row a e h p k (omega arith) in
       leads-on n (each (linkActs x old new a) k) (linkActs x old new a k) l (one a k (after e (each (linkActs x old new a) k)) h i (l .part))
 
-  part-row : {a : ℕ} {h : ℕ → ℕ → Bool} → Part f g a n h → Part f g (suc a) 0 h
+  part-row : {a : ℕ} {h : ℕ → ℕ → Bool} → Partway f g a n h → Partway f g (suc a) 0 h
   part-row {a} {h} p =
       record {
         above = λ u v l. ⊎-elim (λ (q : u ≡ a). rw q (whole v)) (λ (i : u < a). p .above u v i) (eq-or-lt-of-le (le-of-suc-le-suc l));
@@ -122,7 +122,7 @@ module _ {x : Bool} {old new : List ℕ} {n : ℕ} {f g : ℕ → ℕ → Bool} 
       whole : (v : ℕ) → h a v ≡ g a v
       whole v = ⊎-elim (λ (i : n ≤ v). p .right v i ∙ t .beyond a v (inr i)) (λ (i : v < n). p .left v i) (le-or-lt n v)
 
-  rows : (e : List Act) → Part f g 0 0 (isOpen e) → (a : ℕ) → a ≤ n → Leads n e (each (rowActs x old new n) a) f g a 0
+  rows : (e : List Act) → Partway f g 0 0 (isOpen e) → (a : ℕ) → a ≤ n → Leads n e (each (rowActs x old new n) a) f g a 0
   unfolding each rowActs
   rows e p zero h = leads-none n p
   rows e p (suc a) h =
@@ -133,21 +133,21 @@ module _ {x : Bool} {old new : List ℕ} {n : ℕ} {f g : ℕ → ℕ → Bool} 
 
 -- ---- commands that lead from one set of links to another
 
-pub record Sets (n : ℕ) (e xs : List Act) (g : ℕ → ℕ → Bool) : Type 0 where
+pub record LeadsTo (n : ℕ) (e xs : List Act) (g : ℕ → ℕ → Bool) : Type 0 where
   pub follow : Follow n e xs
   pub links : (u v : ℕ) → isOpen (after e xs) u v ≡ g u v
   pub none : befores e xs ≡ []
 
-module _ {x : Bool} {old new : List ℕ} {n : ℕ} {f g : ℕ → ℕ → Bool} (t : Turns x old new n f g) where
-  table : (e : List Act) → ((u v : ℕ) → isOpen e u v ≡ f u v) → Sets n e (tableActs x old new n) g
+module _ {x : Bool} {old new : List ℕ} {n : ℕ} {f g : ℕ → ℕ → Bool} (t : Differ x old new n f g) where
+  table : (e : List Act) → ((u v : ℕ) → isOpen e u v ≡ f u v) → LeadsTo n e (tableActs x old new n) g
   unfolding tableActs
   table e h =
-      let p : Part f g 0 0 (isOpen e) =
+      let p : Partway f g 0 0 (isOpen e) =
       record { above = λ u v l. absurd (not-suc-le-zero l); left = λ v l. absurd (not-suc-le-zero l); right = λ v l. h 0 v; below = λ u v l. h u v } in
       let l = rows t e p n (omega arith) in
       record { follow = l .follow; links = λ u v. by (l .part) u v (le-or-lt n u); none = l .none }
     where
-      by : {h : ℕ → ℕ → Bool} → Part f g n 0 h → (u v : ℕ) → (n ≤ u) ⊎ (u < n) → h u v ≡ g u v
+      by : {h : ℕ → ℕ → Bool} → Partway f g n 0 h → (u v : ℕ) → (n ≤ u) ⊎ (u < n) → h u v ≡ g u v
       by p u v (inr i) = p .above u v i
       by p u v (inl i) =
           ⊎-elim (λ (q : n ≡ u). rw (sym q) (p .right v (omega arith))) (λ (j : n < u). p .below u v j) (eq-or-lt-of-le i) ∙ t .beyond u v (inl i)
@@ -167,19 +167,19 @@ far {n} w c a b o =
     ⊎-elim (λ (l : n ≤ a). omega arith) (λ (l : n ≤ b). omega arith) o)
 
 module _ (n : ℕ) (old new : List ℕ) (c : Clean n old) (d : Clean n new) where
-  own : (x : Bool) (a b : ℕ) → changes x (link old a b) (link new a b) ≡ true → a ≢ b
+  own : (x : Bool) (a b : ℕ) → becomes x (link old a b) (link new a b) ≡ true → a ≢ b
   own x a b h e = no x (link old a b) (link new a b) (shut old c) (shut new d) h
     where
       shut : (w : List ℕ) → Clean n w → link w a b ≡ false
       shut w c = rw (sym e) (F→≡ (link w a a) (c .loopless a))
 
-      no : (x y z : Bool) → y ≡ false → z ≡ false → changes x y z ≡ true → ⊥
+      no : (x y z : Bool) → y ≡ false → z ≡ false → becomes x y z ≡ true → ⊥
       no true true z p q h = true≢false p
       no true false z p q h = true≢false (sym h ∙ q)
       no false true z p q h = true≢false p
       no false false z p q h = true≢false (sym h)
 
-  shuts : Turns false old new n (link old) (both old new)
+  shuts : Differ false old new n (link old) (both old new)
   shuts =
       record {
         apart = own false;
@@ -189,21 +189,21 @@ module _ (n : ℕ) (old new : List ℕ) (c : Clean n old) (d : Clean n new) wher
         beyond = λ a b o. rw (far old c a b o);
       }
     where
-      by : (x y : Bool) → changes false x y ≡ true → x ≡ true
+      by : (x y : Bool) → becomes false x y ≡ true → x ≡ true
       by true y h = refl
       by false y h = h
 
-      on : (x y : Bool) → changes false x y ≡ true → x && y ≡ false
+      on : (x y : Bool) → becomes false x y ≡ true → x && y ≡ false
       on true true h = sym h
       on true false h = refl
       on false y h = refl
 
-      no : (x y : Bool) → changes false x y ≡ false → x ≡ x && y
+      no : (x y : Bool) → becomes false x y ≡ false → x ≡ x && y
       no true true h = refl
       no true false h = h
       no false y h = refl
 
-  opens : Turns true old new n (both old new) (link new)
+  opens : Differ true old new n (both old new) (link new)
   opens =
       record {
         apart = own true;
@@ -213,20 +213,20 @@ module _ (n : ℕ) (old new : List ℕ) (c : Clean n old) (d : Clean n new) wher
         beyond = λ a b o. rw (far old c a b o, far new d a b o);
       }
     where
-      by : (x y : Bool) → changes true x y ≡ true → x && y ≡ false
+      by : (x y : Bool) → becomes true x y ≡ true → x && y ≡ false
       by true y h = absurd (true≢false (sym h))
       by false y h = refl
 
-      on : (x y : Bool) → changes true x y ≡ true → y ≡ true
+      on : (x y : Bool) → becomes true x y ≡ true → y ≡ true
       on true y h = absurd (true≢false (sym h))
       on false y h = h
 
-      no : (x y : Bool) → changes true x y ≡ false → x && y ≡ y
+      no : (x y : Bool) → becomes true x y ≡ false → x && y ≡ y
       no true y h = refl
       no false y h = sym h
 
   -- the changes of a pick lead from the links of the pick before to its own
-  pub change : (e : List Act) → ((u v : ℕ) → isOpen e u v ≡ link old u v) → Sets n e (changeActs n old new) (link new)
+  pub change : (e : List Act) → ((u v : ℕ) → isOpen e u v ≡ link old u v) → LeadsTo n e (changeActs n old new) (link new)
   unfolding changeActs
   change e h =
       let xs = tableActs false old new n in

@@ -46,7 +46,8 @@ module _ (n : ℕ) (w out : List ℕ) (s : MaySave n w out) where
     unfolding lentFile
     content =
         rw saved-file
-        (trip n limit into (lentPicks n w (length w / n)) (s .lent .boards .0) (s .lent .boards .1) (s .lent .recorded) (rw length-lent (e .few)) (e .some) (e .most) (e .room))
+        (trip n limit into (lentPicks n w (length w / n)) (s .lent .boards .0) (s .lent .boards .1) (s .lent .recorded) (rw length-lent (e .few)) (e .some)
+        (e .most) (e .room))
 
     -- THE ROUND TRIP: the reader gives the same n, number of picks and words
     pub reads-back : (readSays limit (savedFile n w out) into ≡ read 0 n (length w / n))

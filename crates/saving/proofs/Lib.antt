@@ -1,6 +1,7 @@
 -- The laws of saving, and the lemmas of the proofs.
 pub mod Laws
 pub mod Causes
+pub mod Order
 pub mod Trip
 pub mod Change
 pub mod Follows

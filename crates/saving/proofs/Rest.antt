@@ -16,7 +16,7 @@ use Rattle.model.proofs.Links.{link-to}
 use Rattle.links.specs.Tables.{without}
 use Rattle.links.proofs.Bits.{bit-left, bit-out}
 use Rattle.recording.specs.Grammar.{sets}
-use Rattle.saving.specs.File.{changes, linkActs, rowActs}
+use Rattle.saving.specs.File.{becomes, linkActs, rowActs}
 use Rattle.saving.specs.Puts.{spelled, Puts, Changed}
 use Rattle.saving.proofs.Put.{Wrote, wrote-start, wrote-room, wrote-turn, wrote-long, wrote-on, wrote-all}
 
@@ -26,9 +26,9 @@ unfolding without
 without-in x w v t = and-l (bit x v) (bit (2 ^ 32 - 1 - 2 ^ w) v) (tr (bit-and x (2 ^ 32 - 1 - 2 ^ w) v) t)
 
 -- a link that changes goes to a board below n
-changes-below : (x : Bool) (n : ℕ) {old new : List ℕ} (a b : ℕ) → Clean n old → Clean n new → T (changes x (link old a b) (link new a b)) → b < n
-changes-below true n {old} {new} a b p q t = link-to n new (q .words) a b (and-r (not (link old a b)) (link new a b) t)
-changes-below false n {old} {new} a b p q t = link-to n old (p .words) a b (and-l (link old a b) (not (link new a b)) t)
+becomes-below : (x : Bool) (n : ℕ) {old new : List ℕ} (a b : ℕ) → Clean n old → Clean n new → T (becomes x (link old a b) (link new a b)) → b < n
+becomes-below true n {old} {new} a b p q t = link-to n new (q .words) a b (and-r (not (link old a b)) (link new a b) t)
+becomes-below false n {old} {new} a b p q t = link-to n old (p .words) a b (and-l (link old a b) (not (link new a b)) t)
 
 -- The invariant: the links below k are passed, and `rest` has those of the others that change.
 pub record Passed (x : Bool) (old new : List ℕ) (n a at : ℕ) (out₀ out : List ℕ) (next rest : ℕ) : Type 0 where
@@ -36,7 +36,7 @@ pub record Passed (x : Bool) (old new : List ℕ) (n a at : ℕ) (out₀ out : L
   wrote : Wrote (linkActs x old new a) n at out₀ out next k
   inside : (b : ℕ) → T (bit rest b) → b < n
   below : (b : ℕ) → b < k → bit rest b ≡ false
-  onward : (b : ℕ) → k ≤ b → b < n → bit rest b ≡ changes x (link old a b) (link new a b)
+  onward : (b : ℕ) → k ≤ b → b < n → bit rest b ≡ becomes x (link old a b) (link new a b)
 
 pub passed-start : {x : Bool} {old new : List ℕ} {n a at : ℕ} {out₀ : List ℕ} {rest : ℕ} → Clean n old → Clean n new
     → at + length (spelled (rowActs x old new n a)) ≤ length out₀ → Changed x (getD old a 0) (getD new a 0) rest → Passed x old new n a at out₀ out₀ at rest
@@ -44,7 +44,7 @@ unfolding rowActs link
 passed-start {x} {old} {new} {n} {a} p q h e = record {
   k = 0;
   wrote = wrote-start h;
-  inside = λ b t. changes-below x n a b p q (tr (e b) t);
+  inside = λ b t. becomes-below x n a b p q (tr (e b) t);
   below = λ b l. absurd (not-suc-le-zero l);
   onward = λ b l m. e b;
 }

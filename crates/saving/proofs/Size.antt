@@ -14,7 +14,7 @@ use Rattle.model.specs.Recording.{bit, link, Words}
 use Rattle.model.specs.Journey.{val}
 use Rattle.model.proofs.Bits.{bit-xor, bit-digit}
 use Rattle.recording.specs.Grammar.{sets, spellFile}
-use Rattle.saving.specs.File.{each, changes, linkActs, rowActs, tableActs, changeActs, pickActs, turnActs, fileActs, file}
+use Rattle.saving.specs.File.{each, becomes, linkActs, rowActs, tableActs, changeActs, pickActs, turnActs, fileActs, file}
 use Rattle.saving.specs.Puts.{spelled}
 use Rattle.saving.proofs.Acts.{spelled-length, spelled-all}
 
@@ -34,7 +34,7 @@ ones-more x k =
 
 -- the two commands of a link that was so, and is so now
 both : (a b : ℕ) (x y : Bool)
-    → length (spelled (cond (changes false x y) (sets false a b ∷ []) [])) + length (spelled (cond (changes true x y) (sets true a b ∷ []) []))
+    → length (spelled (cond (becomes false x y) (sets false a b ∷ []) [])) + length (spelled (cond (becomes true x y) (sets true a b ∷ []) []))
     ≡ 3 * val (cond x (not y) y)
 unfolding spelled
 both a b true true = refl

@@ -20,9 +20,11 @@ use Rattle.recording.specs.Grammar.{Act, pick, isOpen, befores, Follow, Reads}
 use Rattle.recording.proofs.Grammar.{read-whole}
 use Rattle.recording.proofs.Laws.{read-law, picks-law}
 use Rattle.saving.specs.File.{each, changeActs, pickActs, linksAt, turnActs, fileActs, file}
+use Rattle.saving.specs.Order.{Left, InOrder}
 use Rattle.saving.proofs.Turns.{before-clean, pick-clean}
 use Rattle.saving.proofs.Follows.{after, after-append, follow-append, befores-append}
 use Rattle.saving.proofs.Change.{change}
+use Rattle.saving.proofs.Order.{file-ordered, left-pick, change-left}
 
 -- ---- the commands of the picks so far
 
@@ -36,15 +38,21 @@ module _ (n : ℕ) (picks : List (List ℕ)) (r : Recording n picks) where
     now : (u v : ℕ) → isOpen (after [] (acts k)) u v ≡ link (linksAt n picks k) u v
     many : length (befores [] (acts k)) ≡ k
     each-pick : (j : ℕ) → j < k → (u v : ℕ) → isOpen (getD (befores [] (acts k)) j []) u v ≡ link (getD picks j []) u v
+    -- and each link that was named for it is as it was set
+    left : (j : ℕ) → j < k → Left (getD (befores [] (acts k)) j []) (getD (befores [] (acts k)) j [])
+    -- none is named for the next
+    fresh : (w : List Act) → Left w (after [] (acts k))
 
   told-start : Told 0
-  unfolding each Follow isOpen befores
+  unfolding each Follow isOpen befores Left
   told-start =
       record {
         follow = tt;
         now = λ u v. sym (F→≡ (link (zeros n) u v) (zeros-none n u v));
         many = refl;
         each-pick = λ j h. absurd (not-suc-le-zero h);
+        left = λ j h. absurd (not-suc-le-zero h);
+        fresh = λ w. tt;
       }
 
   module _ {k : ℕ} (t : Told k) (h : k < length picks) where
@@ -66,21 +74,28 @@ module _ (n : ℕ) (picks : List (List ℕ)) (r : Recording n picks) where
         let b : befores [] (acts k ++ (made ++ (pick ∷ []))) ≡ befores [] (acts k) ++ (whole ∷ []) =
         befores-append [] (acts k) (made ++ (pick ∷ []))
         ∙ ap (λ (l : List (List Act)). befores [] (acts k) ++ l) (befores-append sofar made (pick ∷ []) ∙ rw (s .none) (unfold befores in refl)) in
+        let q : after [] (acts k ++ (made ++ (pick ∷ []))) ≡ pick ∷ whole =
+        after-append [] (acts k) (made ++ (pick ∷ [])) ∙ after-append sofar made (pick ∷ []) in
         record {
           follow = follow-append n [] (acts k) (made ++ (pick ∷ [])) (t .follow) f;
-          now = λ u v. ap (λ (e : List Act). isOpen e u v) (after-append [] (acts k) (made ++ (pick ∷ [])) ∙ after-append sofar made (pick ∷ []))
-              ∙ (unfold isOpen in s .links u v);
+          now = λ u v. ap (λ (e : List Act). isOpen e u v) q ∙ (unfold isOpen in s .links u v);
           many = ap length b ∙ length-append (befores [] (acts k)) (whole ∷ []) ∙ rw (t .many) (add-one k);
-          each-pick = λ j i u v. ap (λ (l : List (List Act)). isOpen (getD l j []) u v) b
-              ∙ ⊎-elim
-              (λ (q : j ≡ k).
-              ap (λ (e : List Act). isOpen e u v)
-              (ap (λ (l : ℕ). getD (befores [] (acts k) ++ (whole ∷ [])) l []) (q ∙ sym (t .many)) ∙ getD-append-seam (befores [] (acts k)) whole [] [])
-              ∙ s .links u v ∙ ap (λ (l : ℕ). link (getD picks l []) u v) (sym q))
-              (λ (l : j < k).
-              ap (λ (e : List Act). isOpen e u v) (List·getD-append (befores [] (acts k)) (whole ∷ []) [] j (rw (t .many) l)) ∙ t .each-pick j l u v)
-              (eq-or-lt-of-le (le-of-suc-le-suc i));
+          each-pick = λ j i. by b (λ e p. (u v : ℕ) → isOpen e u v ≡ link p u v) (s .links) (t .each-pick) j i;
+          left = λ j i. by b (λ e p. Left e e) (change-left n (linksAt n picks k) (linksAt n picks (suc k)) sofar (s .links) (t .fresh)) (t .left) j i;
+          fresh = λ w. rw q (left-pick w whole);
         }
+      where
+        -- what holds before the 50 of this pick, and before the others, holds before each
+        by : {bs : List (List Act)} → bs ≡ befores [] (acts k) ++ (whole ∷ []) → (P : List Act → List ℕ → Type 0) → P whole (getD picks k [])
+            → ((j : ℕ) → j < k → P (getD (befores [] (acts k)) j []) (getD picks j [])) → (j : ℕ) → j < suc k → P (getD bs j []) (getD picks j [])
+        by e P h g j i =
+            rw e (⊎-elim
+            (λ (q : j ≡ k).
+            let z : getD (befores [] (acts k) ++ (whole ∷ [])) j [] ≡ whole =
+            ap (λ (l : ℕ). getD (befores [] (acts k) ++ (whole ∷ [])) l []) (q ∙ sym (t .many)) ∙ getD-append-seam (befores [] (acts k)) whole [] [] in
+            rw (z, q) h)
+            (λ (l : j < k). rw (List·getD-append (befores [] (acts k)) (whole ∷ []) [] j (rw (t .many) l)) (g j l))
+            (eq-or-lt-of-le (le-of-suc-le-suc i)))
 
   told : (k : ℕ) → k ≤ length picks → Told k
   told zero h = told-start
@@ -129,3 +144,11 @@ module _ (n limit : ℕ) (out : List ℕ) (picks : List (List ℕ)) (low : 2 ≤
       (pick-at n picks r (suc k) (omega arith) (omega arith) .words)
       (λ u v i j. w .as-told .each k (omega (arith, w .as-told .many)) u v ∙ t .each-pick k (omega arith) u v)) in
       w .ends ∙ ap (λ (l : List (List ℕ)). ended n l (length (file n picks))) e
+
+-- the file is in the order of the request
+pub file-in-order : (n : ℕ) (picks : List (List ℕ)) → Recording n picks → InOrder n (file n picks)
+unfolding file fileActs
+file-in-order n picks r =
+    let t = told n picks r (length picks) (le-refl _) in
+    let (o, l) = file-ordered n picks (length picks) in
+    record { acts = fileActs n picks; spelled = refl; ordered = o; left = λ k h. t .left k (omega (arith, t .many)); last = l }

@@ -13,14 +13,14 @@ unfoldable pub each : (ℕ → List Act) → ℕ → List Act
 each f zero = []
 each f (suc k) = each f k ++ f k
 
--- a link that was so, and is so now, shuts (false) or opens (true)
-abbrev pub changes : Bool → Bool → Bool → Bool
-changes false was is = was && not is
-changes true was is = not was && is
+-- a link that was so, and is so now, becomes shut (false) or open (true)
+abbrev pub becomes : Bool → Bool → Bool → Bool
+becomes false was is = was && not is
+becomes true was is = not was && is
 
 -- the command of the link from a to b, if it shuts, or opens, from the links `old` to the links `new`
 unfoldable pub linkActs : Bool → List ℕ → List ℕ → ℕ → ℕ → List Act
-linkActs x old new a b = cond (changes x (link old a b) (link new a b)) (sets x a b ∷ []) []
+linkActs x old new a b = cond (becomes x (link old a b) (link new a b)) (sets x a b ∷ []) []
 
 -- those of the links from a, ascending by to
 unfoldable pub rowActs : Bool → List ℕ → List ℕ → ℕ → ℕ → List Act

@@ -3,3 +3,4 @@ pub mod File
 pub mod Puts
 pub mod Answers
 pub mod May
+pub mod Order

@@ -7,7 +7,7 @@ use lib.ListN.{length}
 use Rattle.model.specs.Recording.{bit}
 use Rattle.lists.specs.Tab.{splice}
 use Rattle.recording.specs.Grammar.{Act, spell}
-use Rattle.saving.specs.File.{changes}
+use Rattle.saving.specs.File.{becomes}
 
 -- the bytes of commands, one after the other
 unfoldable pub spelled : List Act → List ℕ
@@ -21,4 +21,4 @@ pub record Puts (out after : List ℕ) (at behind : ℕ) (acts : List Act) : Typ
 
 -- the links of a word that was so, and is so now, that open (true) or shut (false)
 abbrev pub Changed : Bool → ℕ → ℕ → ℕ → Type 0
-Changed x was is r = (b : ℕ) → bit r b ≡ changes x (bit was b) (bit is b)
+Changed x was is r = (b : ℕ) → bit r b ≡ becomes x (bit was b) (bit is b)

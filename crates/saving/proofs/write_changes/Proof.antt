@@ -13,7 +13,7 @@ use Rattle.model.specs.Recording.{link, Words}
 use Rattle.lists.proofs.Tab.{every-out}
 use Rattle.links.specs.Tables.{rowSame, same}
 use Rattle.recording.specs.Grammar.{Act}
-use Rattle.saving.specs.File.{changes, linkActs, rowActs, tableActs, changeActs}
+use Rattle.saving.specs.File.{becomes, linkActs, rowActs, tableActs, changeActs}
 use Rattle.saving.specs.Puts.{spelled}
 use Rattle.saving.proofs.Acts.{each-none}
 use Rattle.saving.proofs.Put.{puts-none, puts-more, first-room, second-room}
@@ -27,7 +27,7 @@ equal n old new p q e =
     let z = q .size in
     ext-getD 0 new old (z ∙ sym (p .size)) (λ u h. eqb→eq (getD new u 0) (getD old u 0) (every-out (rowSame old new) n (rw e tt) u (omega arith)))
 
-stays : (x y : Bool) → changes x y y ≡ false
+stays : (x y : Bool) → becomes x y y ≡ false
 stays true true = refl
 stays true false = refl
 stays false true = refl
