@@ -149,12 +149,15 @@ void test_altered(uint32_t share) {
     for (uint32_t i = 0; i < 20000 / share; i++) {
         uint32_t words[80], out[80], n = other_word(below(12)), measure = other_word(below(5));
         uint32_t limit = other_word(below(12));
+        uint8_t bytes[80];
         size_t count = below(80), room = below(80);
         for (uint32_t k = 0; k < 80; k++) words[k] = below(8) ? below(4) : draw(), out[k] = draw();
+        memset(bytes, (int)below(256), sizeof bytes);
         call_open(n, measure, limit, words, count, out, room);
         call_whole(n, measure, words, count, out, room);
         call_decide(n, measure, words, count, other_word(below(12)), out, room);
         call_table(n, words, count, out, room);
+        call_save(n, words, count, bytes, room);
     }
     printf("altered: %lu picks taken, %lu refused\n", taken, refused);
     if (share == 1) CHECK(taken > 60000 && refused > 20000);

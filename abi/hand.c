@@ -160,9 +160,40 @@ static void sixteen(void) {
     CHECK(call_length(p).refusal == 16);
 }
 
-/* Each single bit of each word: forbidden or not, in a pick, a list, a whole recording and a table's recording. */
+/*
+ * Saving at both ends of n and of the number of picks, none among them. All links open, all shut, and so on by turns,
+ * so the file has the most bytes that there can be; the output is longer, exact to the byte, and one byte short.
+ */
+static void longest_files(void) {
+    for (uint32_t n = 1; n <= 33; n += n == 2 ? 30 : 1) {
+        for (uint32_t m = 0; m <= 4097; m += m == 2 ? 4094 : 1) {
+            uint32_t want = n < 2 || n > 32 ? 1 : m > 4096 ? 3 : 0, all = n < 32 ? (1u << n) - 1 : ~0u;
+            size_t count = (size_t)m * n, most = want ? 64 : NOOKMALLOW_FILE_BYTES(n, m);
+            uint32_t *words = words_of(count), length = want ? 0 : (uint32_t)most;
+            uint8_t *out = bytes_of(most + 3);
+            for (size_t i = 0; i < count; i++) words[i] = i / n % 2 ? 0 : all & ~(1u << (i % n & 31));
+            for (size_t spare = 0; spare <= 3; spare += 3) {
+                nookmallow_saved s = call_save(n, words, count, out, most + spare);
+                CHECK(s.refusal == want && s.length == length);
+            }
+            nookmallow_saved s = call_save(n, words, count, out, most - 1);
+            CHECK(s.refusal == (want ? want : 18) && s.length == 0);
+            if (count) CHECK(call_save(n, words, count - 1, out, most).refusal == (want == 1 ? 1 : 10));
+            /* A forbidden bit in the last word. */
+            if (count) words[count - 1] |= n < 32 ? 1u << n : 1u << 31;
+            if (count) CHECK(call_save(n, words, count, out, most).refusal == (want ? want : 5));
+            free(words);
+            free(out);
+        }
+    }
+    CHECK(NOOKMALLOW_FILE_BYTES(2, 0) == 3 && NOOKMALLOW_FILE_BYTES(3, 2) == 41);
+    CHECK(NOOKMALLOW_FILE_BYTES(32, 4096) == 12193795);
+}
+
+/* Each single bit of each word: forbidden or not, in a pick, a list, and a recording lent whole. */
 static void every_bit(uint32_t n) {
     uint32_t area[NOOKMALLOW_AREA_WORDS(32, 1, 1)], words[32] = {0}, out[32] = {0};
+    uint8_t file[7] = {0};
     const size_t need = NOOKMALLOW_AREA_WORDS(n, 1, 1);
     for (uint32_t u = 0; u < n; u++) {
         for (uint32_t b = 0; b < 32; b++) {
@@ -175,6 +206,7 @@ static void every_bit(uint32_t n) {
             CHECK(call_whole(n, 2, words, n, area, need).refusal == want);
             CHECK(call_decide(n, 2, words, n, 1, area, need).refusal == want);
             CHECK(call_table(n, words, n, out, n) == want);
+            CHECK(call_save(n, words, n, file, 7).refusal == want);
         }
         words[u] = 0;
     }
@@ -185,6 +217,7 @@ void test_hand(uint32_t share) {
     decisions();
     edges();
     sixteen();
+    longest_files();
     for (uint32_t n = 2; n <= 32; n++)
         if (share == 1 || n == 2 || n == 32) every_bit(n);
 }

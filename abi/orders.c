@@ -82,7 +82,7 @@ static void measuring(void) {
     }
 }
 
-/* Words for a whole run or a table under a set of causes: 10, 8 and 3 are about their number, 5 and 9 about their bits. */
+/* Words lent whole under a set of causes: 10, 8 and 3 are about their number, 5 and 9 about their bits. */
 static size_t whole_words(uint32_t *words, int ten, int eight, int three, int five, int nine) {
     size_t count = eight ? 0 : three ? 2 * 4097 : 8;
     for (size_t i = 0; i < 2 * 4097 + 1; i++) words[i] = nine ? 0 : i % 2 ? 1 : 2;
@@ -138,6 +138,27 @@ static void table(void) {
     }
 }
 
+static void saving(void) {
+    static const uint32_t order[] = {1, 10, 3, 5, 18}, boards[4] = {1, 33, 0, ~0u};
+    static uint32_t words[2 * 4097 + 1];
+    static uint8_t out[NOOKMALLOW_FILE_BYTES(2, 4097)];
+    const size_t file = 13, shorter[4] = {12, 0, 2, 1}; /* 42 2, both links open, four picks, 45 */
+    for (unsigned set = 0; set < 32; set++) {
+        for (int other = 0; other < 4; other++) {
+            size_t count = whole_words(words, set & 2, 0, set & 4, set & 8, 0), room = sizeof out;
+            if (set == 0 && other > 0) room = file;
+            if (set & 16) room = shorter[other];
+            memset(out, 9, sizeof out);
+            nookmallow_saved s = call_save(set & 1 ? boards[other] : 2, words, count, out, room);
+            CHECK(s.refusal == first_of(order, 5, set) && s.length == (set ? 0 : file));
+            CHECK(out[0] == (set ? 9 : 0x42) && out[12] == (set ? 9 : 0x45) && out[13] == 9);
+        }
+    }
+    /* No picks are neither 8 nor 3. */
+    CHECK(call_save(2, NULL, 0, out, 3).refusal == 0 && call_save(2, NULL, 0, out, 2).refusal == 18);
+    CHECK(call_save(2, NULL, 0, NULL, 0).refusal == 18 && call_save(33, NULL, 0, NULL, 0).refusal == 1);
+}
+
 void test_orders(void) {
     opening();
     picking();
@@ -145,4 +166,5 @@ void test_orders(void) {
     whole();
     decision();
     table();
+    saving();
 }

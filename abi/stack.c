@@ -9,11 +9,12 @@
 #include <stdlib.h>
 #include <string.h>
 
-enum { STACK = 1 << 20, PAINT = 0xA5, PICKS = 8, KINDS_OF_CALL = 7 };
-static const char *const names[KINDS_OF_CALL] = {"none", "open", "pick", "whole", "decide", "table", "read"};
+enum { STACK = 1 << 20, PAINT = 0xA5, PICKS = 8, KINDS_OF_CALL = 8 };
+static const char *const names[KINDS_OF_CALL] = {"none", "open", "pick", "whole", "decide", "table", "read", "save"};
 static struct {
     int call;
     uint32_t measure, words[32 * PICKS], out[32 * PICKS], *area;
+    uint8_t bytes[NOOKMALLOW_FILE_BYTES(32, PICKS)];
     nookmallow_place place;
 } job;
 
@@ -31,6 +32,7 @@ static void *work(void *unused) {
     case 4: nookmallow_decide(32, job.measure, job.words, 32 * PICKS, 2, job.area, need); break;
     case 5: nookmallow_table(32, job.words, 32 * PICKS, job.out, 32); break;
     case 6: nookmallow_read(file, sizeof file, PICKS, job.out, 32 * PICKS); break;
+    case 7: nookmallow_save(32, job.words, 32 * PICKS, job.bytes, sizeof job.bytes); break;
     }
     return unused;
 }
@@ -70,7 +72,7 @@ void test_stack(void) {
         }
         printf("\n");
     }
-    CHECK(job.place.taken == PICKS);
+    CHECK(job.place.taken == PICKS && job.bytes[0] == 0x42);
     free(stack);
     free(job.area);
 }

@@ -29,6 +29,13 @@ uint32_t *words_of(size_t count) {
     return w;
 }
 
+uint8_t *bytes_of(size_t count) {
+    uint8_t *b = malloc(count + 1);
+    if (!b) abort();
+    for (size_t i = 0; i < count; i++) b[i] = (uint8_t)draw();
+    return b;
+}
+
 void next_pick(uint32_t kind, uint32_t n, uint32_t p, uint32_t *words) {
     static const uint32_t density[] = {8, 40, 100, 170, 235, 252};
     static uint32_t d;
@@ -113,13 +120,47 @@ static uint32_t *copy_of(const uint32_t *from, size_t count) {
     return w;
 }
 
+/* Bytes lent in the same way, behind 0 to 7 that nobody may touch. */
+typedef struct {
+    uint8_t *block, *bytes;
+    size_t front, count;
+} lent_bytes;
+
+static lent_bytes lend_bytes(const uint8_t *from, size_t count) {
+    lent_bytes l;
+    l.front = draw() & 7;
+    l.count = count;
+    l.block = malloc(l.front + count + (l.front + count == 0));
+    if (!l.block) abort();
+    memset(l.block, 0xA5, l.front);
+    l.bytes = l.block + l.front;
+    if (count) memcpy(l.bytes, from, count);
+    else if (draw() & 1) l.bytes = NULL;
+    return l;
+}
+
+static int settle_bytes(const char *name, lent_bytes *l, const uint8_t *want, uint8_t *back) {
+    int good = 1;
+    for (size_t i = 0; i < l->front; i++) good &= l->block[i] == 0xA5;
+    if (l->count && memcmp(l->bytes, want, l->count) != 0) {
+        size_t i = 0;
+        while (l->bytes[i] == want[i]) i++;
+        if (differences < PRINTED) printf("  %s byte %zu: got %02x, want %02x\n", name, i, l->bytes[i], want[i]);
+        good = 0;
+    }
+    if (back && l->count) memcpy(back, l->bytes, l->count);
+    free(l->block);
+    return good;
+}
+
 /* ---- what each call may answer, and has answered */
 
-enum { OPEN, PICK, LENGTH, WHOLE, DECIDE, TABLE, READ, CALLS, LAST_REFUSAL = 17 };
-static const char *const names[CALLS] = {"open", "pick", "length", "whole", "decide", "table", "read"};
+enum { OPEN, PICK, LENGTH, WHOLE, DECIDE, TABLE, READ, SAVE, CALLS, LAST_REFUSAL = 18 };
+static const char *const names[CALLS] = {"open", "pick", "length", "whole", "decide", "table", "read", "save"};
 static const unsigned char may[CALLS][12] = {
     {0, 1, 2, 3, 10, 5, 4, 99}, {0, 16, 7, 10, 5, 4, 6, 99}, {0, 16, 8, 9, 99}, {0, 1, 2, 10, 8, 3, 4, 5, 9, 99},
-    {0, 1, 2, 10, 8, 3, 4, 5, 17, 99}, {0, 1, 10, 8, 3, 4, 5, 99}, {0, 3, 11, 12, 1, 4, 13, 14, 7, 15, 99}};
+    {0, 1, 2, 10, 8, 3, 4, 5, 17, 99}, {0, 1, 10, 8, 3, 4, 5, 99}, {0, 3, 11, 12, 1, 4, 13, 14, 7, 15, 99},
+    {0, 1, 10, 3, 5, 18, 99}};
 static unsigned long seen[CALLS][LAST_REFUSAL + 1];
 
 static void saw(int call, uint32_t refusal) {
@@ -243,13 +284,11 @@ uint32_t call_table(uint32_t n, const uint32_t *words, size_t words_len, uint32_
 
 nookmallow_reading call_read(const uint8_t *bytes, size_t bytes_len, uint32_t limit, uint32_t *out, size_t out_len) {
     uint32_t *want = copy_of(out, out_len);
-    uint8_t *file = malloc(bytes_len + (bytes_len == 0));
-    if (!file) abort();
-    if (bytes_len) memcpy(file, bytes, bytes_len);
     lent o = lend(out, out_len);
+    lent_bytes f = lend_bytes(bytes, bytes_len);
     nookmallow_reading e = walk_read(bytes, bytes_len, limit, want, out_len);
-    nookmallow_reading r = nookmallow_read(bytes_len || draw() & 1 ? file : NULL, bytes_len, limit, o.words, o.count);
-    int good = settle("out", &o, want, out) & (bytes_len == 0 || memcmp(file, bytes, bytes_len) == 0);
+    nookmallow_reading r = nookmallow_read(f.bytes, f.count, limit, o.words, o.count);
+    int good = settle("out", &o, want, out) & settle_bytes("file", &f, bytes, NULL);
     good &= same_words("answer", (uint32_t *)&r, (uint32_t *)&e, sizeof r / 4);
     saw(READ, r.refusal);
     if (!good && differ("read")) {
@@ -257,9 +296,27 @@ nookmallow_reading call_read(const uint8_t *bytes, size_t bytes_len, uint32_t li
         for (size_t i = 0; i < bytes_len && i < 200; i++) printf(" %02x", bytes[i]);
         printf("\n");
     }
-    free(file);
     free(want);
     return r;
+}
+
+nookmallow_saved call_save(uint32_t n, const uint32_t *words, size_t words_len, uint8_t *out, size_t out_len) {
+    uint8_t *want = malloc(out_len + 1);
+    if (!want) abort();
+    if (out_len) memcpy(want, out, out_len);
+    lent w = lend(words, words_len);
+    lent_bytes o = lend_bytes(out, out_len);
+    nookmallow_saved e = walk_save(n, words, words_len, want, out_len);
+    nookmallow_saved s = nookmallow_save(n, w.words, w.count, o.bytes, o.count);
+    int good = settle_bytes("out", &o, want, out) & settle("words", &w, words, NULL);
+    good &= same_words("answer", (uint32_t *)&s, (uint32_t *)&e, sizeof s / 4);
+    saw(SAVE, s.refusal);
+    if (!good && differ("save")) {
+        printf("  n %lu out %zu\n", (unsigned long)n, out_len);
+        print_words("words", words, words_len);
+    }
+    free(want);
+    return s;
 }
 
 int main(int argc, char **argv) {

@@ -17,8 +17,9 @@ int differ(const char *what);
     } while (0)
 
 /*
- * The calls. Each lends the archive copies of exactly the length said, at any alignment of 4 bytes, and compares every
- * word of the answer, of the area or output, and of what is only read, with the prediction. Area and output come back.
+ * The calls. Each lends the archive copies of exactly the length said, words at any alignment of 4 bytes and bytes at
+ * any at all, and compares every word or byte of the answer, of the area or output, and of what is only read, with the
+ * prediction. Area and output come back.
  */
 nookmallow_handed call_open(uint32_t n, uint32_t measure, uint32_t limit, const uint32_t *footprint, size_t footprint_len,
                             uint32_t *area, size_t area_len);
@@ -30,9 +31,11 @@ nookmallow_decision call_decide(uint32_t n, uint32_t measure, const uint32_t *wo
                                 uint32_t *area, size_t area_len);
 uint32_t call_table(uint32_t n, const uint32_t *words, size_t words_len, uint32_t *out, size_t out_len);
 nookmallow_reading call_read(const uint8_t *bytes, size_t bytes_len, uint32_t limit, uint32_t *out, size_t out_len);
+nookmallow_saved call_save(uint32_t n, const uint32_t *words, size_t words_len, uint8_t *out, size_t out_len);
 
-/* Words for a test's own use. They hold draws, so that nothing rests on zeros. */
+/* Words and bytes for a test's own use. They hold draws, so that nothing rests on zeros. */
 uint32_t *words_of(size_t count);
+uint8_t *bytes_of(size_t count);
 
 /* Picks that make lengths of many sizes: `kind` is how their links come and go. */
 enum { KINDS = 5 };

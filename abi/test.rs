@@ -3,7 +3,8 @@
 #[path = "../include/nookmallow.rs"]
 mod nookmallow;
 
-use nookmallow::{area_words, decide, length, open, pick, read, table, whole, Answer, Decision, Handed, Measured, Place, Reading};
+use nookmallow::{area_words, decide, file_bytes, length, open, pick, read, save, table, whole};
+use nookmallow::{Answer, Decision, Handed, Measured, Place, Reading, Saved};
 use std::mem::{align_of, offset_of, size_of};
 
 // ---- the table
@@ -42,11 +43,16 @@ fn layout() {
         offset_of!(Decision, compositions), offset_of!(Decision, tests)]);
     line("reading", &[size_of::<Reading>(), align_of::<Reading>(), offset_of!(Reading, refusal), offset_of!(Reading, boards),
         offset_of!(Reading, picks)]);
+    line("saved", &[size_of::<Saved>(), align_of::<Saved>(), offset_of!(Saved, refusal), offset_of!(Saved, length)]);
     println!("version {}", nookmallow::version());
 }
 
 fn sum_of(words: &[u32]) -> u32 {
     words.iter().fold(2166136261u32, |sum, w| (sum ^ w).wrapping_mul(16777619))
+}
+
+fn sum_of_bytes(bytes: &[u8]) -> u32 {
+    bytes.iter().fold(2166136261u32, |sum, b| (sum ^ u32::from(*b)).wrapping_mul(16777619))
 }
 
 fn place_text(p: Place) -> String {
@@ -117,6 +123,12 @@ fn one_round(g: &mut Draws) {
     }
     let d = read(&bytes[..bytes_len], limit, &mut out);
     println!("read {} {} {} out {}", d.refusal, d.boards, d.picks, sum_of(&out));
+    let most = file_bytes(n, count as u32 / n);
+    let other = if g.below(8) != 0 { n } else { g.below(7) };
+    let shorter = if g.below(2) != 0 { 0 } else { g.below(20) } as usize;
+    let mut file: Vec<u8> = (0..file_bytes(5, 6)).map(|_| g.draw() as u8).collect();
+    let s = save(other, &words[..count], &mut file[..most - shorter.min(most)]);
+    println!("save {} {} file {}", s.refusal, s.length, sum_of_bytes(&file));
 }
 
 // ---- answers known by hand
@@ -183,6 +195,18 @@ fn each_call() {
     assert_eq!(read(&[], 2, &mut []), Reading { refusal: 12, boards: 0, picks: 0 });
     assert_eq!(table(2, &[2, 2], &mut out), 5);
     assert_eq!(out, [2, 0, 7, 7, 7]);
+    let mut bytes = [7; 9];
+    let refused = |refusal| Saved { refusal, length: 0 };
+    assert_eq!(save(33, &[2, 0], &mut bytes), refused(1));
+    assert_eq!(save(2, &[2, 0, 1], &mut bytes), refused(10));
+    assert_eq!(save(2, &[0; 2 * 4097], &mut bytes), refused(3));
+    assert_eq!(save(2, &[2, 2], &mut bytes), refused(5));
+    assert_eq!(save(2, &[2, 0], &mut bytes[..6]), refused(18));
+    assert_eq!(bytes, [7; 9]);
+    assert_eq!(save(2, &[2, 0], &mut bytes), Saved { refusal: 0, length: 7 });
+    assert_eq!(bytes, [0x42, 2, 0x4F, 0, 1, 0x50, 0x45, 7, 7]);
+    assert_eq!(save(2, &[], &mut bytes[..3]), Saved { refusal: 0, length: 3 });
+    assert_eq!(bytes, [0x42, 2, 0x45, 0, 1, 0x50, 0x45, 7, 7]);
 }
 
 fn main() {

@@ -43,12 +43,21 @@ static void layout(void) {
     AT(nookmallow_reading, refusal);
     AT(nookmallow_reading, boards);
     AT(nookmallow_reading, picks);
+    printf("\nsaved %zu %zu", sizeof(nookmallow_saved), ALIGN(nookmallow_saved));
+    AT(nookmallow_saved, refusal);
+    AT(nookmallow_saved, length);
     printf("\nversion %lu\n", (unsigned long)nookmallow_version());
 }
 
 static unsigned long sum_of(const uint32_t *words, size_t count) {
     uint32_t sum = 2166136261u;
     for (size_t i = 0; i < count; i++) sum = (sum ^ words[i]) * 16777619u;
+    return sum;
+}
+
+static unsigned long sum_of_bytes(const uint8_t *bytes, size_t count) {
+    uint32_t sum = 2166136261u;
+    for (size_t i = 0; i < count; i++) sum = (sum ^ bytes[i]) * 16777619u;
     return sum;
 }
 
@@ -78,7 +87,7 @@ static void one_round(void) {
     static const uint8_t likely[8] = {0x4F, 0x53, 0x50, 0x45, 0, 1, 2, 0x50};
     uint32_t n = 2 + below(4), measure = 1 + below(4), limit = 1 + below(6), all = (1u << n) - 1;
     uint32_t list[5], words[30], out[40], area[NOOKMALLOW_AREA_WORDS(5, 4, 6) + 2];
-    uint8_t bytes[24];
+    uint8_t bytes[24], file[NOOKMALLOW_FILE_BYTES(5, 6)];
     size_t area_len = NOOKMALLOW_AREA_WORDS(n, measure, limit) + below(3);
     for (uint32_t u = 0; u < n; u++) list[u] = all & ~(1u << u);
     for (uint32_t i = 0; i < 6 * n; i++) words[i] = draw() & list[i % n];
@@ -120,6 +129,13 @@ static void one_round(void) {
     nookmallow_reading d = nookmallow_read(bytes, bytes_len, limit, out, 40);
     printf("read %lu %lu %lu out %lu\n", (unsigned long)d.refusal, (unsigned long)d.boards, (unsigned long)d.picks,
            sum_of(out, 40));
+    size_t file_len = NOOKMALLOW_FILE_BYTES(n, count / n);
+    uint32_t boards = below(8) ? n : below(7), shorter = below(2) ? 0 : below(20);
+    for (size_t i = 0; i < sizeof file; i++) file[i] = (uint8_t)draw();
+    file_len -= shorter < file_len ? shorter : file_len;
+    nookmallow_saved s = nookmallow_save(boards, words, count, file, file_len);
+    printf("save %lu %lu file %lu\n", (unsigned long)s.refusal, (unsigned long)s.length,
+           sum_of_bytes(file, sizeof file));
 }
 
 void trace(void) {

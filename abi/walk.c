@@ -350,3 +350,40 @@ nookmallow_reading walk_read(const uint8_t *bytes, size_t bytes_len, uint32_t li
     r.picks = picks;
     return r;
 }
+
+/* A byte of a file: counted, and written where there is an output. The place behind it is answered. */
+static size_t put(uint8_t *out, size_t at, uint32_t byte) {
+    if (out) out[at] = (uint8_t)byte;
+    return at + 1;
+}
+
+/* The file of m picks, written where there is an output: how many bytes it has. Each pair is looked at twice a pick. */
+static size_t put_file(uint8_t *out, uint32_t n, const uint32_t *words, size_t m) {
+    size_t at = put(out, put(out, 0, 0x42), n);
+    for (size_t p = 0; p < m; p++) {
+        for (int opens = 0; opens <= 1; opens++) {
+            for (uint32_t from = 0; from < n; from++) {
+                for (uint32_t to = 0; to < n; to++) {
+                    int was = p > 0 && bit(words[(p - 1) * n + from], to), is = bit(words[p * n + from], to);
+                    if (was == opens || is != opens) continue;
+                    at = put(out, at, opens ? 0x4F : 0x53);
+                    at = put(out, at, from);
+                    at = put(out, at, to);
+                }
+            }
+        }
+        at = put(out, at, 0x50);
+    }
+    return put(out, at, 0x45);
+}
+
+nookmallow_saved walk_save(uint32_t n, const uint32_t *words, size_t words_len, uint8_t *out, size_t out_len) {
+    nookmallow_saved s = {0, 0};
+    if (n < 2 || n > 32) s.refusal = 1;
+    else if (words_len % n) s.refusal = 10;
+    else if (words_len / n > 4096) s.refusal = 3;
+    else if (is_forbidden(n, words, words_len)) s.refusal = 5;
+    else if (out_len < put_file(NULL, n, words, words_len / n)) s.refusal = 18;
+    if (s.refusal == 0) s.length = (uint32_t)put_file(out, n, words, words_len / n);
+    return s;
+}

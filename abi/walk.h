@@ -17,6 +17,7 @@ nookmallow_decision walk_decide(uint32_t n, uint32_t measure, const uint32_t *wo
                                 uint32_t *area, size_t area_len);
 uint32_t walk_table(uint32_t n, const uint32_t *words, size_t words_len, uint32_t *out, size_t out_len);
 nookmallow_reading walk_read(const uint8_t *bytes, size_t bytes_len, uint32_t limit, uint32_t *out, size_t out_len);
+nookmallow_saved walk_save(uint32_t n, const uint32_t *words, size_t words_len, uint8_t *out, size_t out_len);
 
 /* Whether cause 16 holds of a place. */
 int walk_is_bad(nookmallow_place p);

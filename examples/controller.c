@@ -1,7 +1,8 @@
 /*
  * A small controller: it asks whether its built-in wait will do for a recorded design; then it sets its wait from the
- * reach length, after every pick, and is stopped and started at a pick.
- * A real one would read its boards instead of `woven`, and write `struct stored` to a disk or a battery-backed store.
+ * reach length, after every pick, and is stopped and started at a pick; at the end it saves what it took as a file.
+ * A real one would read its boards instead of `woven`, and write `struct stored` and the file to a disk or a
+ * battery-backed store.
  */
 #include "nookmallow.h"
 #include <stdio.h>
@@ -11,11 +12,13 @@
 #define LIMIT 16u
 #define BUILT_IN 3u /* the wait that this controller has built in */
 #define AREA NOOKMALLOW_AREA_WORDS(BOARDS, NOOKMALLOW_REACH, LIMIT)
+#define RECORDING NOOKMALLOW_RECORDING_WORDS(BOARDS, LIMIT)
 
 struct controller {
     nookmallow_place place;
     uint32_t area[AREA];
-    uint32_t wait; /* picks to wait; 0 while none is known, and the loom then sends nothing */
+    uint32_t recording[RECORDING]; /* the picks taken */
+    uint32_t wait;                 /* picks to wait; 0 while none is known, and the loom then sends nothing */
 };
 
 /* What has to come through a stop. The version says whether a later archive may go on from it. */
@@ -23,10 +26,11 @@ struct stored {
     uint32_t version;
     nookmallow_place place;
     uint32_t area[AREA];
+    uint32_t recording[RECORDING];
 };
 
 /* What the controller does about each refusal, by its number. */
-static const char *const remedies[18] = {
+static const char *const remedies[19] = {
     "none",
     "boards not 2 to 32: correct the setup",
     "no such measure: correct the setup",
@@ -45,6 +49,7 @@ static const char *const remedies[18] = {
     "file: something after its end",
     "place damaged: open again, and all picks from pick 1",
     "no window of so many picks: ask with another number, or record more",
+    "output shorter than the file: lend as many bytes as the macro says",
 };
 
 static void say(uint32_t refusal, uint32_t wait) {
@@ -75,6 +80,7 @@ static uint32_t weave(struct controller *c, const uint32_t *words) {
     c->place = h.place;
     c->wait = 0;
     if (h.refusal != NOOKMALLOW_OK) return h.refusal;
+    memcpy(c->recording + (c->place.taken - 1) * BOARDS, words, BOARDS * sizeof *words);
     nookmallow_measured r = nookmallow_length(c->place);
     c->wait = r.length; /* 0 under a refusal */
     return r.refusal;
@@ -84,6 +90,7 @@ static void stop(const struct controller *c, struct stored *s) {
     s->version = nookmallow_version();
     s->place = c->place;
     memcpy(s->area, c->area, sizeof s->area);
+    memcpy(s->recording, c->recording, sizeof s->recording);
 }
 
 /* Goes on from what was stored, unless another version stored it; then the picks have to be taken again from pick 1. */
@@ -91,8 +98,25 @@ static int start(struct controller *c, const struct stored *s) {
     if (s->version != nookmallow_version()) return 0;
     c->place = s->place;
     memcpy(c->area, s->area, sizeof c->area);
+    memcpy(c->recording, s->recording, sizeof c->recording);
     c->wait = nookmallow_length(c->place).length;
     return 1;
+}
+
+/* Saves the picks taken as a recording file, and reads it back to see that it tells the same. */
+static void save(const struct controller *c) {
+    static uint8_t file[NOOKMALLOW_FILE_BYTES(BOARDS, LIMIT)];
+    static uint32_t back[RECORDING];
+    size_t words = NOOKMALLOW_RECORDING_WORDS(BOARDS, c->place.taken);
+    nookmallow_saved s = nookmallow_save(BOARDS, c->recording, words, file, sizeof file);
+    printf("saving %lu picks", (unsigned long)c->place.taken);
+    if (s.refusal != NOOKMALLOW_OK) {
+        say(s.refusal, 0);
+        return;
+    }
+    nookmallow_reading r = nookmallow_read(file, s.length, LIMIT, back, RECORDING);
+    int same = r.picks == c->place.taken && memcmp(back, c->recording, words * sizeof back[0]) == 0;
+    printf(": %lu bytes, read back %s\n", (unsigned long)s.length, same ? "the same" : "otherwise");
 }
 
 /* Bit v of a board's word is set when light passes from it to board v. The fourth is a misreading: board 0 to itself. */
@@ -136,6 +160,7 @@ int main(void) {
             say(NOOKMALLOW_OK, c->wait);
         }
     }
+    save(c);
     /* A damaged place is refused, never trusted. */
     c->place.start = 99;
     refusal = weave(c, woven[0]);

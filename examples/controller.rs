@@ -11,7 +11,7 @@ const REACH: u32 = 3;
 // The wait that this controller has built in.
 const BUILT_IN: u32 = 3;
 
-// The number of a refusal, 1 to 17, with what to do about it.
+// The number of a refusal, 1 to 18, with what to do about it.
 #[derive(Clone, Copy, Debug, PartialEq, Eq)]
 struct Refusal(u32);
 
@@ -30,6 +30,7 @@ impl fmt::Display for Refusal {
             10 => "not a word for each board: read the boards again",
             16 => "place damaged: open again, and all picks from pick 1",
             17 => "no window of so many picks: ask with another number, or record more",
+            18 => "output shorter than the file: lend as many bytes as the macro says",
             _ => "not a refusal of these calls",
         };
         write!(f, "refusal {}: {}", self.0, remedy)
@@ -53,24 +54,30 @@ struct Stored {
     version: u32,
     place: Place,
     area: Vec<u32>,
+    recording: Vec<u32>,
 }
 
+// `recording` has the picks taken.
 struct Walk {
     place: Place,
     area: Vec<u32>,
+    recording: Vec<u32>,
 }
 
 impl Walk {
     fn open(n: u32, measure: u32, limit: u32, footprint: &[u32]) -> Result<Walk, Refusal> {
         let mut area = vec![0; nookmallow::area_words(n, measure, limit)];
         let h = nookmallow::open(n, measure, limit, footprint, &mut area);
-        answer(h.refusal, Walk { place: h.place, area })
+        answer(h.refusal, Walk { place: h.place, area, recording: Vec::new() })
     }
 
     // A refused pick changes nothing, so it may be put right and handed over again.
     fn pick(&mut self, words: &[u32]) -> Result<(), Refusal> {
         let h = nookmallow::pick(self.place, &mut self.area, words);
         self.place = h.place;
+        if h.refusal == 0 {
+            self.recording.extend_from_slice(words);
+        }
         answer(h.refusal, ())
     }
 
@@ -85,7 +92,7 @@ impl Walk {
     }
 
     fn stop(self) -> Stored {
-        Stored { version: nookmallow::version(), place: self.place, area: self.area }
+        Stored { version: nookmallow::version(), place: self.place, area: self.area, recording: self.recording }
     }
 
     // None where another version stored it: the picks have to be taken again from pick 1.
@@ -93,7 +100,7 @@ impl Walk {
         if stored.version != nookmallow::version() {
             return None;
         }
-        Some(Walk { place: stored.place, area: stored.area })
+        Some(Walk { place: stored.place, area: stored.area, recording: stored.recording })
     }
 }
 
@@ -102,6 +109,22 @@ fn will_do(n: u32, measure: u32, design: &[u32], k: u32) -> Result<bool, Refusal
     let mut area = vec![0; nookmallow::area_words(n, measure, design.len() as u32 / n)];
     let d = nookmallow::decide(n, measure, design, k, &mut area);
     answer(d.refusal, d.yes == 1)
+}
+
+// The recording file of some picks.
+fn file_of(n: u32, recording: &[u32]) -> Result<Vec<u8>, Refusal> {
+    let mut file = vec![0; nookmallow::file_bytes(n, recording.len() as u32 / n)];
+    let s = nookmallow::save(n, recording, &mut file);
+    file.truncate(s.length as usize);
+    answer(s.refusal, file)
+}
+
+// The boards and the picks of a recording file of up to `limit` picks.
+fn read_file(file: &[u8], limit: u32) -> Result<(u32, Vec<u32>), Refusal> {
+    let mut recording = vec![0; 32 * limit as usize];
+    let r = nookmallow::read(file, limit, &mut recording);
+    recording.truncate((r.boards * r.picks) as usize);
+    answer(r.refusal, (r.boards, recording))
 }
 
 // Takes a pick; the wait is its length, and there is none without one.
@@ -138,6 +161,9 @@ fn main() -> Result<(), Refusal> {
             println!("stopped and started after pick {}: wait {} picks", walk.taken(), wait_of(&walk));
         }
     }
+    let file = file_of(3, &walk.recording)?;
+    let same = read_file(&file, 16)? == (3, walk.recording.clone());
+    println!("saving {} picks: {} bytes, read back {}", walk.taken(), file.len(), if same { "the same" } else { "otherwise" });
     // A damaged place is refused, never trusted.
     let stored = walk.stop();
     let place = Place { start: 99, ..stored.place };

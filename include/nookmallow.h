@@ -2,9 +2,10 @@
  * Nookmallow: lengths of a light-linked harness, for controllers in C or C++.
  *
  * Up to 32 boards talk by one-way light links, and each pick of the loom has its own set of open links. From the links,
- * recorded pick by pick, this part works out four lengths from which a controller sets its waits. It answers every
- * input: with the figures asked for, or with one of the 17 refusals below. It keeps nothing between calls, allocates
- * nothing, never stops the program, and needs nothing but memcpy, memmove and memset of your C library.
+ * recorded pick by pick, this part works out four lengths from which a controller sets its waits; it also reads and
+ * writes recording files. It answers every input: with the figures asked for, or with one of the 18 refusals below. It
+ * keeps nothing between calls, allocates nothing, never stops the program, and needs nothing but memcpy, memmove and
+ * memset of your C library.
  *
  * Link with libnookmallow.a (x86-64 Linux calling convention). Keep to the declarations below: nothing checks at run
  * time that a pointer is valid and a count true.
@@ -93,6 +94,8 @@
  *              length after some pick, hand over the last R picks up to that one and every pick since, as below.
  *   17         no window of k picks lies in the recording, and nothing has changed: ask with a k from 1 to m, or lend
  *              more picks.
+ *   18         the file of the recording is longer than the output, and nothing has changed: for m picks lend
+ *              NOOKMALLOW_FILE_BYTES(n, m) bytes, and save again.
  *
  * ---- Going on past the limit
  *
@@ -131,15 +134,16 @@
  * A place with the area of another pick, of another opening or with altered words is answered too, but its lengths mean
  * nothing. nookmallow_length, which changes nothing, tells some damaged places (16): those with a number out of range or
  * with numbers that contradict each other. Many altered places pass, and it never looks at the area, so keep a checksum
- * over place and area. Past the limit store R, the last R picks and the lengths of the full openings too.
+ * over place and area. Past the limit store R, the last R picks and the lengths of the full openings too. Neither place
+ * nor area brings back the picks: where these may be needed again, keep their words, or their file (nookmallow_save).
  *
  * ---- Pointers
  *
  * Each pointer comes with the number of words (for a file: bytes) that may be used from there on. Pointers to words are
- * aligned to 4 bytes. A pointer may be NULL where its count is 0. What is written may not overlap what is read in the
- * same call: `area` not `words` or `footprint`, `out` not `words` or `bytes`, under every measure. Nor may two calls
- * that run at the same time share a buffer that one of them writes; with buffers of their own, calls may run in
- * several threads at once.
+ * aligned to 4 bytes; bytes may lie anywhere. A pointer may be NULL where its count is 0. What is written may not
+ * overlap what is read in the same call: `area` not `words` or `footprint`, `out` not `words` or `bytes`, under every
+ * measure. Nor may two calls that run at the same time share a buffer that one of them writes; with buffers of their
+ * own, calls may run in several threads at once.
  */
 #ifndef NOOKMALLOW_H
 #define NOOKMALLOW_H
@@ -172,23 +176,27 @@ extern "C" {
 /* The words of a recording: what nookmallow_read needs as output, with its limit for `picks`. */
 #define NOOKMALLOW_RECORDING_WORDS(n, picks) ((size_t)(n) * (size_t)(picks))
 
+/* The most bytes that nookmallow_save needs for a recording of `picks`; that is proved. Where all links open, all shut,
+ * and so on by turns, it needs them all, else less. */
+#define NOOKMALLOW_FILE_BYTES(n, picks) (3 + (size_t)(picks) * (3 * (size_t)(n) * ((size_t)(n) - 1) + 1))
+
 /*
  * A thread that calls needs this much stack to spare. Measured, not proved: pick, whole and decide take the most, some
- * 14 KiB under measure 4 and 11 KiB under the others, and where calls are bound lazily the linker takes some 3 KiB more
- * once.
+ * 14 KiB under measure 4 and 11 KiB under the others; save takes far less; and where calls are bound lazily the linker
+ * takes some 3 KiB more once.
  */
 #define NOOKMALLOW_STACK_BYTES 24576u
 
 /*
- * The refusals. Every answer has one in its first word. A call that is refused changes none of your words, but for 9
- * of nookmallow_whole, which leaves its area zero.
+ * The refusals. Every answer has one in its first word. A call that is refused changes none of your words or bytes, but
+ * for 9 of nookmallow_whole, which leaves its area zero.
  */
 enum nookmallow_refusal {
     NOOKMALLOW_OK = 0,         /* none: the answer is good */
     NOOKMALLOW_BOARDS = 1,     /* n is not 2 to 32 */
     NOOKMALLOW_MEASURE = 2,    /* the measure is not 1 to 4 */
-    NOOKMALLOW_PICKS = 3,      /* the limit, or the number of picks lent whole, is not 1 to 4096; no pick lent whole is 8 */
-    NOOKMALLOW_ROOM = 4,       /* the area or the output is shorter than needed */
+    NOOKMALLOW_PICKS = 3,      /* the limit, or the picks lent whole, are not 1 to 4096; no pick: 8, but may be saved */
+    NOOKMALLOW_ROOM = 4,       /* the area or the output is shorter than needed; in save that is 18 */
     NOOKMALLOW_FORBIDDEN = 5,  /* a pick or the list has a link from a board to itself, or a bit n or above */
     NOOKMALLOW_UNLISTED = 6,   /* measure 2, pick by pick: the pick has a link that the list of the opening has not */
     NOOKMALLOW_FULL = 7,       /* one pick more than the limit; how to go on stands above */
@@ -201,7 +209,8 @@ enum nookmallow_refusal {
     NOOKMALLOW_UNCHANGED = 14, /* file: opens a link that is open, or shuts one that is shut */
     NOOKMALLOW_TRAILING = 15,  /* file: bytes after 45 */
     NOOKMALLOW_PLACE = 16,     /* no walk comes to this place: it was altered, never opened, or not stored whole */
-    NOOKMALLOW_WINDOW = 17     /* decide: k is 0, or above the number of picks lent */
+    NOOKMALLOW_WINDOW = 17,    /* decide: k is 0, or above the number of picks lent */
+    NOOKMALLOW_FILE_ROOM = 18  /* save: the output is shorter than the file */
 };
 
 /*
@@ -254,6 +263,11 @@ typedef struct nookmallow_reading {
     uint32_t boards; /* 0 where refused */
     uint32_t picks;  /* 0 where refused; a file without picks has none either, with refusal 0 */
 } nookmallow_reading;
+
+typedef struct nookmallow_saved {
+    uint32_t refusal;
+    uint32_t length; /* of the file, in bytes; 0 where refused */
+} nookmallow_saved;
 
 /* The archive's version of the format of place and area. */
 uint32_t nookmallow_version(void);
@@ -326,10 +340,30 @@ uint32_t nookmallow_table(uint32_t n, const uint32_t *words, size_t words_len, u
  * are. The output must hold limit * n words, however many picks the file has: 32 * limit words are always enough.
  * Refused: 3 for the limit; then the first cause met going byte by byte, and within a command in this order: 11, 12, at
  * a 42 then 1, 4, at a 4F or 53 then 13, 14, at a 50 then 7 (beyond the limit); at last 15. An empty file is 12. No word
- * is written then.
+ * is written then. A file of nookmallow_save, which writes them, can be refused for limit and output only: 3, 7 and 4.
  */
 nookmallow_reading nookmallow_read(const uint8_t *bytes, size_t bytes_len, uint32_t limit, uint32_t *out,
                                    size_t out_len);
+
+/*
+ * Saves a whole recording of m = words_len / n picks as a file that nookmallow_read takes, into the first bytes of
+ * `out`: 42 n; then for each pick the links that shut since the pick before (53 from to), ascending by from and then by
+ * to, then those that open (4F from to) in the same order, then 50; at last 45. Before pick 1 all links are shut. Links
+ * that stay as they were have no command, so a pick takes 3 bytes for each link that changes, and 1. The same words
+ * always give the same bytes. A recording without picks is saved too: 42 n 45.
+ * `length` is how many bytes of `out` are the file: store so many. Bytes beyond stay as they are. It depends on the
+ * links; NOOKMALLOW_FILE_BYTES(n, m) bytes of output are always enough.
+ * Reading gives back what was saved: nookmallow_read, handed these `length` bytes, a limit of at least m (and 1) and an
+ * output of limit * n words, answers n and m, and writes the same words. And what was read from any file can be saved:
+ * the new file reads the same. Its bytes may be others, where the old one had its commands in another order or changed
+ * a link to and fro between two picks; read and saved once more, they stay. All of this is proved.
+ * A file is not in the format of place and area: it has no version and no byte order. More than 4096 picks are saved as
+ * several files; each begins with all links shut and is read by itself.
+ * What it costs grows in proportion to the words lent and the bytes written.
+ * Refused, looked for in this order: 1, 10, 3 (above 4096 picks only), 5, 18 (out_len below the bytes of the file).
+ * `length` is then 0 and nothing is written: the size is worked out before the first byte.
+ */
+nookmallow_saved nookmallow_save(uint32_t n, const uint32_t *words, size_t words_len, uint8_t *out, size_t out_len);
 
 #ifdef __cplusplus
 }

@@ -60,6 +60,13 @@ pub struct Reading {
     pub picks: u32,
 }
 
+#[repr(C)]
+#[derive(Clone, Copy, Debug, Default, PartialEq, Eq)]
+pub struct Saved {
+    pub refusal: u32,
+    pub length: u32,
+}
+
 #[link(name = "nookmallow", kind = "static")]
 extern "C" {
     fn nookmallow_version() -> u32;
@@ -70,6 +77,7 @@ extern "C" {
     fn nookmallow_decide(n: u32, measure: u32, words: *const u32, words_len: usize, k: u32, area: *mut u32, area_len: usize) -> Decision;
     fn nookmallow_table(n: u32, words: *const u32, words_len: usize, out: *mut u32, out_len: usize) -> u32;
     fn nookmallow_read(bytes: *const u8, bytes_len: usize, limit: u32, out: *mut u32, out_len: usize) -> Reading;
+    fn nookmallow_save(n: u32, words: *const u32, words_len: usize, out: *mut u8, out_len: usize) -> Saved;
 }
 
 // NOOKMALLOW_AREA_WORDS. None where n or limit is out of range, which a call refuses before it looks at the area.
@@ -79,6 +87,15 @@ pub fn area_words(n: u32, measure: u32, limit: u32) -> usize {
         return 0;
     }
     (limit + 4) * if measure == 4 { 2 * n * n } else { n }
+}
+
+// NOOKMALLOW_FILE_BYTES. None where n or picks is out of range, which the call refuses before it looks at the output.
+pub fn file_bytes(n: u32, picks: u32) -> usize {
+    let (n, picks) = (n as usize, picks as usize);
+    if n < 2 || n > 32 || picks > 4096 {
+        return 0;
+    }
+    3 + picks * (3 * n * (n - 1) + 1)
 }
 
 pub fn version() -> u32 {
@@ -111,4 +128,8 @@ pub fn table(n: u32, words: &[u32], out: &mut [u32]) -> u32 {
 
 pub fn read(bytes: &[u8], limit: u32, out: &mut [u32]) -> Reading {
     unsafe { nookmallow_read(bytes.as_ptr(), bytes.len(), limit, out.as_mut_ptr(), out.len()) }
+}
+
+pub fn save(n: u32, words: &[u32], out: &mut [u8]) -> Saved {
+    unsafe { nookmallow_save(n, words.as_ptr(), words.len(), out.as_mut_ptr(), out.len()) }
 }

@@ -7,12 +7,14 @@ use Rattle.place.specs.declared.Place.{Place}
 use Rattle.calls.specs.Answers.{Handed, Outcome}
 use Rattle.decision.specs.Decisions.{Decided}
 use Rattle.recording.specs.Answers.{Read}
+use Rattle.saving.specs.Answers.{Saved}
 use Rattle.crossing.specs.declared.PlaceWords.{PlaceWords}
 use Rattle.crossing.specs.declared.HandedWords.{HandedWords}
 use Rattle.crossing.specs.declared.AnswerWords.{AnswerWords}
 use Rattle.crossing.specs.declared.MeasuredWords.{MeasuredWords}
 use Rattle.crossing.specs.declared.DecisionWords.{DecisionWords}
 use Rattle.crossing.specs.declared.ReadingWords.{ReadingWords}
+use Rattle.crossing.specs.declared.SavedWords.{SavedWords}
 
 -- ---- places
 
@@ -67,6 +69,9 @@ decisionWords d = record { refusal = d .refusal; yes = val (d .yes); composition
 abbrev pub readingWords : Read → ReadingWords
 readingWords r = record { refusal = r .refusal; boards = r .boards; picks = r .picks }
 
+abbrev pub savedWords : Saved → SavedWords
+savedWords s = record { refusal = s .refusal; length = s .length }
+
 -- ---- what a word of 32 bits holds, so that no number is cut short on its way to C
 
 pub record Narrow (p : Place) : Type 0 where
@@ -87,3 +92,6 @@ pub record NarrowAnswer (o : Outcome) : Type 0 where
 pub record NarrowDecision (d : Decided) : Type 0 where
   pub compositions : d .compositions < 2 ^ 32
   pub tests : d .tests < 2 ^ 32
+
+pub record NarrowSaved (s : Saved) : Type 0 where
+  pub length : s .length < 2 ^ 32

@@ -5,7 +5,9 @@ ghost use Rattle.model.specs.Journey.{val};
 ghost use Rattle.model.specs.Refusals.{number};
 ghost use Rattle.calls.specs.Answers.{answerSays};
 ghost use Rattle.decision.specs.Decisions.{decisionSays};
-ghost use Rattle.crossing.specs.Words.{flag, flags, placeOf, wordsOf, answerWords, decisionWords, Narrow, NarrowAnswer, NarrowDecision};
+ghost use Rattle.saving.specs.Answers.{savingSays};
+ghost use Rattle.crossing.specs.Words.{flag, flags, placeOf, wordsOf, answerWords, decisionWords, savedWords};
+ghost use Rattle.crossing.specs.Words.{Narrow, NarrowAnswer, NarrowDecision, NarrowSaved};
 use calls::Answer;
 use decision::Decision;
 use model::Compositions;
@@ -17,6 +19,7 @@ use place::Place;
 use place::Settings;
 use place::TestMarks;
 use place::Window;
+use saving::Saving;
 
 // The place as ten words. A flag is 0 for no and 1 for yes.
 #[repr(C)]
@@ -74,6 +77,13 @@ pub struct ReadingWords {
     pub refusal: u32,
     pub boards: u32,
     pub picks: u32,
+}
+
+// What the writer answers: length 0 where nothing was written.
+#[repr(C)]
+pub struct SavedWords {
+    pub refusal: u32,
+    pub length: u32,
 }
 
 // ---- places and answers as words
@@ -209,6 +219,22 @@ pub fn decision_words(d: Decision) -> DecisionWords
             yes: 0,
             compositions: 0,
             tests: 0,
+        },
+    }
+}
+
+pub fn saving_words(s: Saving) -> SavedWords
+    requires { ⌜ NarrowSaved (savingSays s) ⌝ }
+    ensures { λ r. ⌜ r ≡ savedWords (savingSays s) ⌝ }
+{
+    match s {
+        Saving::Written(k) => SavedWords {
+            refusal: 0,
+            length: narrow(k),
+        },
+        Saving::Refused(c) => SavedWords {
+            refusal: cause_word(c),
+            length: 0,
         },
     }
 }

@@ -1,10 +1,11 @@
 -- Every number that the calls answer fits a word of 32 bits, so none is cut short on its way to C. Assumes nothing.
 use mathlib.Core.Path.{_≡_, refl, sym, ap, ap₂, _∙_, subst}
 use mathlib.Core.Bool.{Bool, true, false, _&&_, not, cond}
+use mathlib.Core.Logic.{⊎-elim}
 use mathlib.Core.Option.{none, some}
 use mathlib.Core.List.{List}
-use Prim.Native.Nat.{ℕ, _+_, _-_, _/_, _≤_, _<_, _^_}
-use native.Mathlib.Nat.{le-refl}
+use Prim.Native.Nat.{ℕ, _+_, _-_, _*_, _/_, _≤_, _<_, _^_}
+use native.Mathlib.Nat.{le-refl, mul-le-mul}
 use native.Mathlib.Omega.{arith}
 use lib.Dec.{eqb, eqb→eq, ltb, lit<}
 use lib.ListN.{length}
@@ -12,6 +13,8 @@ use Rattle.model.specs.Causes.{firstOf}
 use Rattle.model.specs.declared.Refusal.{Refusal}
 use Rattle.model.specs.Refusals.{number}
 use Rattle.model.proofs.Refusals.{number-some}
+use Rattle.checks.specs.Lent.{lentPicks}
+use Rattle.checks.proofs.Lent.{length-lent}
 use Rattle.place.specs.declared.Settings.{Settings}
 use Rattle.place.specs.declared.Place.{Place}
 use Rattle.place.specs.Places.{fresh, nowhere, charged, soundPlace, Sound, mostCounted}
@@ -21,7 +24,7 @@ use Rattle.verdicts.specs.Fit.{Runs}
 use Rattle.verdicts.proofs.Verdicts.{open-sound, pick-sound, whole-sound}
 use Rattle.steps.specs.Walk.{State, reported}
 use Rattle.steps.proofs.Ready.{Stepped, stepped-grown, sound-ready}
-use Rattle.model.proofs.Logic.{cond-ind}
+use Rattle.model.proofs.Logic.{cond-ind, eq-or}
 use Rattle.calls.specs.Answers.{Handed, handed, outcome, answerBy}
 use Rattle.calls.specs.Calls.{openSays, pickSays, pickLeaves, reportSays, lengthSays, unions, wholeStart, wholeAfter, wholeReport, wholeSays}
 use Rattle.calls.specs.Fit.{Starts}
@@ -31,9 +34,13 @@ use Rattle.calls.proofs.Loops.{walked, whole-starts, list-cost, length-unions}
 use Rattle.decision.specs.Decisions.{decided, decisionVerdict, decisionReport, decideSays}
 use Rattle.decision.proofs.Verdicts.{decision-sound}
 use Rattle.decision.proofs.Held.{held-counts}
+use Rattle.saving.specs.Answers.{saved, lentFile, saveSays}
+use Rattle.saving.specs.May.{MaySave}
+use Rattle.saving.proofs.Most.{file-most}
+use Rattle.saving.proofs.Causes.{save-exactly, save-fits, save-refused}
 use Rattle.crossing.specs.declared.PlaceWords.{PlaceWords}
 use Rattle.crossing.specs.declared.HandedWords.{HandedWords}
-use Rattle.crossing.specs.Words.{flags, placeOf, wordsOf, handedAs, handedWords, Narrow, NarrowAnswer, NarrowDecision}
+use Rattle.crossing.specs.Words.{flags, placeOf, wordsOf, handedAs, handedWords, Narrow, NarrowAnswer, NarrowDecision, NarrowSaved}
 use Rattle.crossing.proofs.Fits.{small, words-back}
 use Rattle.nookmallow.specs.Boundary.{pickAnswers, pickKeeps}
 
@@ -191,6 +198,30 @@ decide-narrow n measure w k a =
     cond-ind NarrowDecision (eqb v 0) (decisionReport n measure (length w / n) w k a) (decided v false 0 0)
     (λ t. let s = decision-sound n measure w k a (eqb→eq _ _ t) in run-decided n measure (length w / n) k w a (whole-sound n measure w a (s .0)) (s .1))
     (λ t. no-decision v)
+
+-- ---- saving
+
+-- three bytes for each link of a pick and one, and three more: 12,193,795 at most, for 4,096 picks over 32 boards
+file-small : (n m size : ℕ) → n ≤ 32 → m ≤ 4096 → size ≤ 3 + m * (n * (3 * (n - 1)) + 1) → size ≤ mostCounted
+file-small n m size few cap h =
+    let row : 3 * (n - 1) ≤ 93 = omega arith in
+    let pick : n * (3 * (n - 1)) + 1 ≤ 2977 = omega (arith, mul-le-mul few row) in
+    omega (arith, mul-le-mul cap pick)
+
+written-narrow : (n : ℕ) (w out : List ℕ) → MaySave n w out → NarrowSaved (saved 0 (length (lentFile n w)))
+unfolding lentFile
+written-narrow n w out s =
+    let m = length w / n in
+    let l = s .lent in
+    let h = subst (λ (k : ℕ). length (lentFile n w) ≤ 3 + k * (n * (3 * (n - 1)) + 1)) (length-lent n w m) (file-most n (lentPicks n w m) (l .recorded)) in
+    record { length = small (file-small n m (length (lentFile n w)) (l .boards .1) (l .picks) h) }
+
+pub save-narrow : (n : ℕ) (w out : List ℕ) → NarrowSaved (saveSays n w out)
+save-narrow n w out =
+    ⊎-elim
+    (λ e. let s = save-exactly n w out .0 e in subst NarrowSaved (sym (save-fits n w out s .0)) (written-narrow n w out s))
+    (λ f. subst NarrowSaved (sym (save-refused n w out f .0)) (record { length = lit< tt }))
+    (eq-or (saveSays n w out .refusal) 0)
 
 -- ---- answers as words, from what a call answered
 

@@ -4,7 +4,8 @@ ghost use Rattle.calls.specs.Calls.{openSays, openLeaves, wholeSays, wholeLeave
 ghost use Rattle.reach.specs.Tables.{tableVerdict, tableLeaves};
 ghost use Rattle.decision.specs.Decisions.{decideSays, decideLeaves};
 ghost use Rattle.recording.specs.Answers.{readSays, readLeaves};
-ghost use Rattle.crossing.specs.Words.{handedWords, answerWords, measuredWords, decisionWords, readingWords};
+ghost use Rattle.saving.specs.Answers.{saveSays, saveLeaves};
+ghost use Rattle.crossing.specs.Words.{handedWords, answerWords, measuredWords, decisionWords, readingWords, savedWords};
 ghost use Rattle.nookmallow.specs.Boundary.{pickAnswers, pickKeeps, lengthAnswers};
 use calls::Opening;
 use calls::Taking;
@@ -14,6 +15,7 @@ use crossing::HandedWords;
 use crossing::MeasuredWords;
 use crossing::PlaceWords;
 use crossing::ReadingWords;
+use crossing::SavedWords;
 use reach::Tabled;
 use recording::Reading;
 
@@ -165,4 +167,13 @@ pub extern "C" fn nookmallow_read(bytes: &[u8], limit: u32, out: &mut [u32]) -> 
             picks: 0,
         },
     }
+}
+
+// Writes the recording file of a recording lent whole, n words a pick, into the first bytes of out.
+#[no_mangle]
+pub extern "C" fn nookmallow_save(n: u32, words: &[u32], out: &mut [u8]) -> SavedWords
+    ensures { λ r. ⌜ (r ≡ savedWords (saveSays n (now (words .entry)) (now (out .entry))))
+        × (now (out .exit) ≡ saveLeaves n (now (words .entry)) (now (out .entry))) ⌝ }
+{
+    crossing::saving_words(saving::save(n as usize, words, out))
 }
