@@ -1,5 +1,6 @@
 #!/bin/bash
-# Times the archive against the walk in hand-written Rust (walk.rs) and prints a table; then how the cost of a pick grows with the recording.
+# Times the archive against the walk in hand-written Rust (walk.rs) and prints a table; the same of saving (save.rs); then how the cost of a pick grows
+# with the recording.
 # Its output is in target/bench. Needs rustc and valgrind. Takes some two minutes, the proof of the archive not counted.
 set -euo pipefail
 cd "$(dirname "$0")/.."
@@ -36,6 +37,16 @@ while read -r measure kind mode ours theirs ratio; do
     b=($(instructions rust "$measure" "$kind" "$mode"))
     echo "| $measure | $kind | $mode | $ours | $theirs | $ratio | ${a[0]} | ${a[1]} | ${b[0]} | ${b[1]} | $(awk "BEGIN { printf \"%.2f\", ${a[0]} / ${b[0]} }") |"
 done <target/bench/times
+
+echo
+echo "| Saved | Bytes a pick | ns a pick, archive | ns, Rust | Ratio of time, median | Instructions a pick, archive | Instructions, Rust | Ratio of instructions |"
+echo "|---|---|---|---|---|---|---|---|"
+"$speed" saves >target/bench/saves
+while read -r kind ours theirs ratio bytes; do
+    a=($(instructions archive 0 "$kind" save))
+    b=($(instructions rust 0 "$kind" save))
+    echo "| $kind | $bytes | $ours | $theirs | $ratio | ${a[0]} | ${b[0]} | $(awk "BEGIN { printf \"%.2f\", ${a[0]} / ${b[0]} }") |"
+done <target/bench/saves
 
 echo
 echo "| Measure | Recording | Mode | ns a pick, archive, of 1,024 picks | of 2,048 | of 4,096 |"

@@ -1,11 +1,13 @@
 // Times the archive against the walk in hand-written Rust on the same recordings, and compares all that both answer and leave.
 // `speed compare` compares; `speed times` and `speed growth` print a line for each case; `speed lengths` says what the recordings are like;
-// `speed SIDE MEASURE RECORDING MODE PICKS TURNS` runs one case alone, for callgrind. SIDE plain is Rust with plain folds under measure 4.
+// `speed SIDE MEASURE RECORDING MODE PICKS TURNS` runs one case alone, for callgrind. SIDE plain is Rust with plain folds under measure 4. Saving has no
+// measure: it is mode save, with measure 0.
 #[path = "../include/nookmallow.rs"]
 mod nookmallow;
+mod save;
 mod walk;
 
-use nookmallow::{Answer, Handed, Measured, Place};
+use nookmallow::{Answer, Handed, Measured, Place, Saved};
 use std::hint::black_box;
 use std::sync::atomic::Ordering;
 use std::time::Instant;
@@ -44,6 +46,13 @@ impl Side {
             Side::Rust => walk::whole(n, measure, words, area),
         }
     }
+
+    fn save(self, n: u32, words: &[u32], out: &mut [u8]) -> Saved {
+        match self {
+            Side::Archive => nookmallow::save(n, words, out),
+            Side::Rust => save::save(n, words, out),
+        }
+    }
 }
 
 // ---- recordings
@@ -66,7 +75,8 @@ impl Rng {
 // one: a single link a pick;
 // held: half of the links at first, and each link turns at a pick with probability 1/256, so that links stay for long;
 // turning: the same with probability 1/16, so that windows of common links are some picks long;
-// ended: as dense, but for the second pick, which has no link and ends measure 1.
+// ended: as dense, but for the second pick, which has no link and ends measure 1;
+// still: half of the links, the same at every pick.
 fn recording(kind: &str, n: usize, picks: usize, seed: u64) -> Vec<u32> {
     let mut rng = Rng(seed);
     let all = u32::MAX >> (32 - n);
@@ -85,9 +95,10 @@ fn recording(kind: &str, n: usize, picks: usize, seed: u64) -> Vec<u32> {
                 "short" => half & rng.next() & rng.next() & (rng.next() | rng.next()),
                 "dense" => half,
                 "one" => u32::from(u == only) << (half % n as u32),
-                "held" | "turning" => {
+                "held" | "turning" | "still" => {
                     held[u] ^= match kind {
                         _ if p == 0 => half,
+                        "still" => 0,
                         "held" => few & rng.next() & rng.next(),
                         _ => half & rng.next() & rng.next() & rng.next(),
                     };
@@ -128,6 +139,22 @@ fn by_picks(side: Side, n: usize, measure: u32, words: &[u32], list: &[u32], are
         sum = sum.wrapping_mul(31).wrapping_add(u64::from(last.length + 7 * last.refusal + 13 * last.compositions + 17 * last.tests));
     }
     (last, sum)
+}
+
+// The bytes lent for a file of so many picks: always enough.
+fn file_bytes(n: usize, picks: usize) -> Vec<u8> {
+    vec![0xa5; nookmallow::file_bytes(n as u32, picks as u32)]
+}
+
+// Both sides save one recording, with room and a byte short: the same answer and the same bytes.
+fn compare_saved(n: u32, words: &[u32]) {
+    let most = file_bytes(n as usize, words.len() / n.max(1) as usize).len() + 3;
+    let longest = Side::Rust.save(n, words, &mut vec![0; most]).length as usize;
+    for room in [most, longest, longest.saturating_sub(1), 0] {
+        let (mut a, mut b) = (vec![0xa5; room], vec![0xa5; room]);
+        assert_eq!(Side::Archive.save(n, words, &mut a), Side::Rust.save(n, words, &mut b), "n {n} room {room}");
+        assert!(a == b, "n {n} room {room}: file");
+    }
 }
 
 fn run(side: Side, mode: &str, n: usize, measure: u32, words: &[u32], list: &[u32], area: &mut [u32]) -> (Answer, u64) {
@@ -190,6 +217,8 @@ const CASES: [(u32, &str); 17] = [
     (4, "one"),
 ];
 const MODES: [&str; 2] = ["whole", "picks"];
+// How much changes from pick to pick: nothing, a few links, one, some, nearly all there are.
+const SAVED: [&str; 5] = ["still", "held", "one", "sparse", "dense"];
 const N: usize = 32;
 const SEED: u64 = 0x9e3779b97f4a7c15;
 
@@ -301,6 +330,17 @@ fn compare_refusals() {
 
 fn compare_all() {
     compare_refusals();
+    for kind in SAVED {
+        for n in 2..=32 {
+            compare_saved(n as u32, &recording(kind, n, 40, SEED));
+        }
+        compare_saved(N as u32, &recording(kind, N, 4096, SEED));
+    }
+    for n in [0, 1, 2, 5, 32, 33, u32::MAX] {
+        for words in [&[][..], &[0; 10], &[1; 10], &[0; 11], &vec![0; 2 * 4097]] {
+            compare_saved(n, words);
+        }
+    }
     for seed in 1..60 {
         for (measure, kind) in CASES {
             let boards = 2 + seed as usize * 7 % 31;
@@ -335,6 +375,20 @@ fn main() {
                 }
             }
         }
+        // nanoseconds a pick, both sides, the ratio; then bytes a pick
+        ["saves"] => {
+            for kind in SAVED {
+                let words = recording(kind, N, 4096, SEED);
+                let mut out = file_bytes(N, 4096);
+                let rows: Vec<Vec<f64>> = (0..60).map(|_| [Side::Archive, Side::Rust].map(|side| {
+                    let began = Instant::now();
+                    black_box(side.save(N as u32, black_box(&words), &mut out));
+                    began.elapsed().as_nanos() as f64 / 4096.0
+                }).to_vec()).collect();
+                let (best, length) = (best(&rows), Side::Rust.save(N as u32, &words, &mut out).length);
+                println!("{kind} {:.1} {:.1} {:.2} {}", best[0], best[1], median_ratio(&rows), length / 4096);
+            }
+        }
         ["growth"] => {
             for (measure, kind) in CASES {
                 for mode in MODES {
@@ -351,6 +405,15 @@ fn main() {
                 println!("{measure} {kind} {} {} {}", got.length, got.compositions, got.tests);
             }
         }
+        [side, "0", kind, "save", picks, turns] => {
+            let side = if side == "archive" { Side::Archive } else { Side::Rust };
+            let picks: usize = picks.parse().unwrap();
+            let words = recording(kind, N, picks, SEED);
+            let mut out = file_bytes(N, picks);
+            for _ in 0..turns.parse().unwrap() {
+                black_box(side.save(N as u32, black_box(&words), &mut out));
+            }
+        }
         [side, measure, kind, mode, picks, turns] => {
             walk::PLAIN.store(side == "plain", Ordering::Relaxed);
             let side = if side == "archive" { Side::Archive } else { Side::Rust };
@@ -362,6 +425,6 @@ fn main() {
                 black_box(run(side, mode, N, measure, &words, &list, &mut area));
             }
         }
-        _ => panic!("compare, times, growth, lengths, or SIDE MEASURE RECORDING MODE PICKS TURNS"),
+        _ => panic!("compare, times, saves, growth, lengths, or SIDE MEASURE RECORDING MODE PICKS TURNS"),
     }
 }

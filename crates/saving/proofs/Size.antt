@@ -65,12 +65,12 @@ module _ (old new : List ℕ) (a : ℕ) where
 -- ---- a pick
 
 -- the invariant of the loop over the rows of a pick
-pub record Counted (n : ℕ) (old new : List ℕ) (size a : ℕ) : Type 0 where
+pub record Counted (n : ℕ) (old new : List ℕ) (links a : ℕ) : Type 0 where
   pub low : a ≤ n
-  pub sum : size ≡ 1 + length (spelled (each (rowActs false old new n) a)) + length (spelled (each (rowActs true old new n) a))
-  pub few : size ≤ 96 * a + 1
+  pub sum : 3 * links ≡ length (spelled (each (rowActs false old new n) a)) + length (spelled (each (rowActs true old new n) a))
+  pub few : links ≤ 32 * a
 
-pub counted-start : {n : ℕ} {old new : List ℕ} → Counted n old new 1 0
+pub counted-start : {n : ℕ} {old new : List ℕ} → Counted n old new 0 0
 unfolding each spelled
 counted-start = record { low = omega arith; sum = refl; few = omega arith }
 
@@ -78,8 +78,8 @@ counted-start = record { low = omega arith; sum = refl; few = omega arith }
 pub few-ones : (n : ℕ) (old new : List ℕ) (a : ℕ) → n ≤ 32 → Words n old → Words n new → ones (bitXor (getD old a 0) (getD new a 0)) ≤ 32
 few-ones n old new a h o w = omega (arith, ones-le n (bitXor (getD old a 0) (getD new a 0)) (xor-lt n (getD old a 0) (getD new a 0) (o .small a) (w .small a)))
 
-module _ {n : ℕ} {old new : List ℕ} {size a : ℕ} (c : Counted n old new size a) where
-  pub counted-turn : a < n → n ≤ 32 → Words n old → Words n new → Counted n old new (size + 3 * ones (bitXor (getD old a 0) (getD new a 0))) (a + 1)
+module _ {n : ℕ} {old new : List ℕ} {links a : ℕ} (c : Counted n old new links a) where
+  pub counted-turn : a < n → n ≤ 32 → Words n old → Words n new → Counted n old new (links + ones (bitXor (getD old a 0) (getD new a 0))) (a + 1)
   unfolding each
   counted-turn h l o w =
       record {
@@ -88,7 +88,7 @@ module _ {n : ℕ} {old new : List ℕ} {size a : ℕ} (c : Counted n old new si
         few = omega (arith, c .few, few-ones n old new a l o w);
       }
 
-  pub counted-all : n ≤ a → size ≡ length (spelled (pickActs n old new))
+  pub counted-all : n ≤ a → 3 * links + 1 ≡ length (spelled (pickActs n old new))
   unfolding pickActs changeActs tableActs spelled
   counted-all h =
       let e : a ≡ n = omega (arith, c .low) in

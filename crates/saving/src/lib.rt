@@ -26,11 +26,11 @@ fn pick_size(old: &[u32], new: &[u32], n: usize) -> usize
     requires { ⌜ (n ≤ 32) × Clean n (now old) × Clean n (now new) ⌝ }
     ensures { λ r. ⌜ (r ≡ length (spelled (pickActs n (now (old .entry)) (now (new .entry))))) × (r ≤ 3073) ⌝ }
 {
-    let mut size: usize = 1;
+    let mut links = 0u32;
     for a in 0..n {
-        size += 3 * (u32::count_ones(old[a] ^ new[a]) as usize);
+        links += u32::count_ones(old[a] ^ new[a]);
     }
-    size
+    3 * links as usize + 1
 }
 
 // The bytes of the pick with k picks before it. All links start shut.
