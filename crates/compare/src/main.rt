@@ -16,6 +16,7 @@ fn tally(group: Group, measure: usize, words: &mut [u32], area: &mut [u32]) -> T
         Group::Edges(call) => compare_edges::tally(call, measure, words, area),
         Group::TableOfA => compare_edges::tally_of_a(area),
         Group::Limit => compare_walk_edges::limit_tally(area, words),
+        Group::SaveEdges => compare_save_edges::tally(words),
         _ => compare_files::tally(group, measure, words, area),
     }
 }
@@ -54,6 +55,12 @@ fn print_decisions(words: &mut [u32], area: &mut [u32]) {
     print_line(Group::Edges(Call::Decide), 0, words, area);
 }
 
+fn print_saves(words: &mut [u32], area: &mut [u32]) {
+    print_line(Group::ByHand(Kind::Saves), 0, words, area);
+    print_line(Group::Generated(Kind::Saves), 0, words, area);
+    print_line(Group::SaveEdges, 0, words, area);
+}
+
 fn print_edges(words: &mut [u32], area: &mut [u32]) {
     print_line(Group::Edges(Call::Whole), 0, words, area);
     print_line(Group::Edges(Call::Table), 0, words, area);
@@ -75,6 +82,7 @@ fn main() {
     print_files(&mut words, &mut area);
     print_generated(&mut words, &mut area);
     print_decisions(&mut words, &mut area);
+    print_saves(&mut words, &mut area);
     print_edges(&mut words, &mut area);
     print_walk_edges(&mut words, &mut area);
 }

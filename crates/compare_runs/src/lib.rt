@@ -182,7 +182,7 @@ pub fn whole_of(case: Case, words: &[u32], area: &mut [u32]) -> Outcome {
     run_whole(c, words, area)
 }
 
-// The cases of one kind: one, or one for each pick or window length.
+// The cases of one kind: one, or one for each pick, window length or step of saving.
 pub fn run(
     kind: Kind,
     t: Tally,
@@ -207,5 +207,6 @@ pub fn run(
         Kind::Counts => counts_case(t, name, c, words, area),
         Kind::Decisions => decision_cases(t, name, c, words, area),
         Kind::Tables => table_case(t, name, c, words, area),
+        Kind::Saves => compare_saves::save_cases(t, name, c, words, area),
     }
 }

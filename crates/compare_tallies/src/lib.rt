@@ -18,6 +18,7 @@ pub enum Kind {
     Counts,
     Decisions,
     Tables,
+    Saves,
 }
 
 // What a table of edges is for.
@@ -40,6 +41,7 @@ pub enum Group {
     TableOfA,
     Edges(Call),
     Limit,
+    SaveEdges,
 }
 
 pub struct Tally {
@@ -56,7 +58,8 @@ pub fn no_cases(group: Group) -> Tally {
     }
 }
 
-// Which case of a group: its number from 1 on, its measure, the boards and picks of its recording, and the pick or the row that is looked at. 0 is none.
+// Which case of a group: its number from 1 on, its measure, the boards and picks of its recording, and the pick, the row or the step that is looked at.
+// 0 is none.
 pub struct Case {
     pub number: usize,
     pub measure: usize,
@@ -81,7 +84,7 @@ pub fn at_part(case: Case, part: usize) -> Case {
 
 // ---- outcomes
 
-// A length, a word of a table, or 1 for yes; the refusal, and the counts. 0 is none, and no.
+// A length, a word of a table, the size of a file, or 1 for yes; the refusal, and the counts. 0 is none, and no.
 pub struct Outcome {
     pub value: usize,
     pub refusal: usize,
@@ -128,6 +131,10 @@ pub fn left(o: Outcome, kept: bool) -> Outcome {
 
 pub fn of_word(x: u32) -> Outcome {
     uncounted(x as usize, 0)
+}
+
+pub fn of_size(bytes: usize) -> Outcome {
+    uncounted(bytes, 0)
 }
 
 // A length with its counts; length 0 is refusal 9.
@@ -204,6 +211,7 @@ fn print_kind(kind: Kind) {
         Kind::Counts => print(b"counts"),
         Kind::Decisions => print(b"decisions"),
         Kind::Tables => print(b"tables"),
+        Kind::Saves => print(b"saves"),
     }
 }
 
@@ -237,6 +245,7 @@ fn print_name(group: Group) {
             print_call(call);
         }
         Group::Limit => print(b"edges-limit"),
+        Group::SaveEdges => print(b"edges-save"),
     }
 }
 
