@@ -49,7 +49,7 @@ static const char *const remedies[19] = {
     "file: something after its end",
     "place damaged: open again, and all picks from pick 1",
     "no window of so many picks: ask with another number, or record more",
-    "output shorter than the file: lend as many bytes as the macro says",
+    "output shorter than the file: lend more bytes, and save again",
 };
 
 static void say(uint32_t refusal, uint32_t wait) {

@@ -30,7 +30,7 @@ impl fmt::Display for Refusal {
             10 => "not a word for each board: read the boards again",
             16 => "place damaged: open again, and all picks from pick 1",
             17 => "no window of so many picks: ask with another number, or record more",
-            18 => "output shorter than the file: lend as many bytes as the macro says",
+            18 => "output shorter than the file: lend more bytes, and save again",
             _ => "not a refusal of these calls",
         };
         write!(f, "refusal {}: {}", self.0, remedy)

@@ -355,8 +355,9 @@ nookmallow_reading nookmallow_read(const uint8_t *bytes, size_t bytes_len, uint3
  * links; NOOKMALLOW_FILE_BYTES(n, m) bytes of output are always enough.
  * Reading gives back what was saved: nookmallow_read, handed these `length` bytes, a limit of at least m (and 1) and an
  * output of limit * n words, answers n and m, and writes the same words. And what was read from any file can be saved:
- * the new file reads the same. Its bytes may be others, where the old one had its commands in another order or changed
- * a link to and fro between two picks; read and saved once more, they stay. All of this is proved.
+ * the new file reads the same, and read and saved once more it has the same bytes. (All of this is proved.) The old
+ * file may have had others: commands in another order, a link changed to and fro between two picks, or commands behind
+ * its last pick.
  * A file is not in the format of place and area: it has no version and no byte order. More than 4096 picks are saved as
  * several files; each begins with all links shut and is read by itself.
  * What it costs grows in proportion to the words lent and the bytes written.

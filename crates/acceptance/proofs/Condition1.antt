@@ -24,7 +24,7 @@ use Rattle.recording.proofs.Causes.{file-numbers}
 use Rattle.recording.proofs.Laws.{refused-law}
 use Rattle.recording.proofs.Grammar.{reads-exactly, reads-as-written}
 use Rattle.saving.specs.Answers.{saveCauses, saveVerdict}
-use Rattle.saving.proofs.Causes.{save-says, save-exactly, save-refused}
+use Rattle.saving.proofs.Causes.{save-says, save-exactly, save-refused, eighteen-exactly}
 use Rattle.law.proofs.Whole.{refused-run-stays}
 use Rattle.numbers.proofs.Taken.{open-exactly, unlisted-verdict, open-unlisted, pick-exactly as picks-exactly, sixteen-exactly, eight-exactly, unlistedCauses}
 use Rattle.numbers.proofs.Taken.{whole-exactly as runs-exactly, decision-says, refused-decision, decision-exactly as decisions-exactly}
@@ -33,7 +33,7 @@ use Rattle.acceptance.specs.Condition1.{OpeningNumbers, ListUnread, Open
 use Rattle.acceptance.specs.Condition1.{WholeNumbers, TableNumbers, ReadingNumbers, OpeningRefused, PickRefused, WholeRefused, TableRefused}
 use Rattle.acceptance.specs.Condition1.{ReadingRefused, OpeningExactly, PickExactly, LengthSixteen, LengthEight, WholeExactly, TableExactly}
 use Rattle.acceptance.specs.Condition1.{ReadingExactly, ReadingAsWritten, WhatFitsIsTaken, DecisionNumbers, DecisionRefused, DecisionExactly}
-use Rattle.acceptance.specs.Condition1.{SavingNumbers, SavingRefused, SavingExactly}
+use Rattle.acceptance.specs.Condition1.{SavingNumbers, SavingRefused, SavingExactly, SavingEighteen}
 
 -- ---- which numbers a call gives; 0 is none
 
@@ -157,6 +157,9 @@ reading-exactly = reads-exactly
 
 pub saving-exactly : SavingExactly
 saving-exactly = save-exactly
+
+pub saving-eighteen : SavingEighteen
+saving-eighteen = eighteen-exactly
 
 pub reading-as-written : ReadingAsWritten
 reading-as-written = reads-as-written

@@ -1,8 +1,8 @@
 -- Request A2, proved. Assumes nothing.
 use mathlib.Core.Path.{_≡_, refl, sym, ap, _∙_}
-use mathlib.Core.List.{List}
-use Prim.Native.Nat.{ℕ, _*_, _/_}
-use native.Mathlib.Nat.{le-refl}
+use mathlib.Core.List.{List, [], _∷_}
+use Prim.Native.Nat.{ℕ, _*_, _/_, _≤_}
+use native.Mathlib.Nat.{le-refl, zero-mul, div-eq-of-lt}
 use native.Mathlib.Omega.{arith}
 use lib.Dec.{T}
 use lib.ListN.{length, take}
@@ -15,14 +15,20 @@ use Rattle.checks.proofs.Lent.{lent-recording}
 use Rattle.recording.specs.Answers.{read, readLeaves}
 use Rattle.recording.specs.Grammar.{spellAll, spellFile}
 use Rattle.recording.proofs.Examples.{fileA}
-use Rattle.saving.specs.File.{each, linkActs, rowActs, tableActs, changeActs, pickActs, turnActs, fileActs, file}
-use Rattle.saving.specs.Answers.{saved, lentFile, saveSays, savedFile}
+use Rattle.saving.specs.File.{each, linkActs, rowActs, tableActs, changeActs, pickActs, actsAt, fileActs, file}
+use Rattle.saving.specs.Answers.{Saved, saved, lentFile, savedFile}
 use Rattle.saving.specs.May.{LentSequence, MaySave, Enough}
-use Rattle.saving.proofs.Causes.{save-exactly, save-fits, save-room, eighteen-lent}
+use Rattle.saving.proofs.Causes.{save-exactly, save-fits, save-refused, save-room, eighteen-lent, eighteen-exactly}
 use Rattle.saving.proofs.Trip.{file-in-order}
 use Rattle.saving.proofs.Laws.{saved-file, reads-back, reads-whole, words-back, length-law, beyond-law, read-lent, enough-bytes}
 use Rattle.acceptance.specs.Cases.{A}
-use Rattle.acceptance.specs.Saving.{SavedReadsBack, SavedIsTaken, ReadsTheSame, ReadAndSaved, SavedInOrder, SavedBeyond, BytesEnough, SavesA}
+use Rattle.acceptance.specs.Saving.{SavedIsTheFile, SavedReadsBack, SavedIsTaken, ReadAndSaved, SavedInOrder, SavedBeyond, BytesEnough, SavesA, SavesNone}
+
+pub saved-is-the-file : SavedIsTheFile
+unfolding lentFile
+saved-is-the-file n w out e =
+    let s = save-exactly n w out .0 e in
+    (saved-file n w out s, ap (λ (a : Saved). a .length) (save-fits n w out s .0))
 
 pub saved-reads-back : SavedReadsBack
 saved-reads-back n w out e = reads-back n w out (save-exactly n w out .0 e)
@@ -66,7 +72,7 @@ read-and-saved limit bytes into n m e out f =
 -- ---- recording A
 
 bytes-of-A : lentFile 2 A ≡ fileA
-unfolding fileA bit link zeros lentPick lentPicks each linkActs rowActs tableActs changeActs pickActs turnActs fileActs spellAll spellFile file lentFile
+unfolding fileA bit link zeros lentPick lentPicks each linkActs rowActs tableActs changeActs pickActs actsAt fileActs spellAll spellFile file lentFile
 bytes-of-A = refl
 
 clean-A : T (cleanPicks 2 A 4)
@@ -84,6 +90,24 @@ lent-A =
 
 pub saves-A : SavesA
 unfolding fileA
-saves-A out h =
-    let s : MaySave 2 A out = record { lent = lent-A; room = rw bytes-of-A h } in
-    (save-fits 2 A out s .0 ∙ ap (λ (b : List ℕ). saved 0 (length b)) bytes-of-A, saved-file 2 A out s ∙ bytes-of-A)
+saves-A out = (
+  λ h. let s : MaySave 2 A out = record { lent = lent-A; room = rw bytes-of-A h } in
+      (save-fits 2 A out s .0 ∙ ap (λ (b : List ℕ). saved 0 (length b)) bytes-of-A, saved-file 2 A out s ∙ bytes-of-A),
+  λ h. let e = eighteen-exactly 2 A out .1 (lent-A, rw bytes-of-A h) in
+      save-refused 2 A out (λ z. omega arith) .0 ∙ ap (λ (c : ℕ). saved c 0) e,
+)
+
+-- ---- no picks
+
+bytes-of-none : (n : ℕ) → 1 ≤ n → lentFile n [] ≡ 0x42 ∷ n ∷ 0x45 ∷ []
+unfolding lentPicks each fileActs spellAll spellFile file lentFile
+bytes-of-none n h = rw (div-eq-of-lt h)
+
+pub saves-none : SavesNone
+unfolding lentPicks
+saves-none n out low high room =
+    let b = bytes-of-none n (omega arith) in
+    let z : 0 / n ≡ 0 = div-eq-of-lt (omega arith) in
+    let l : LentSequence n [] = record { boards = (low, high); words = rw (z, zero-mul); picks = rw z (omega arith); recorded = rw z tt } in
+    let s : MaySave n [] out = record { lent = l; room = rw b room } in
+    (save-fits n [] out s .0 ∙ ap (λ (f : List ℕ). saved 0 (length f)) b, saved-file n [] out s ∙ b)

@@ -5,7 +5,7 @@ use mathlib.Core.Path.{_≡_}
 use mathlib.Core.Logic.{_↔_}
 use mathlib.Core.Bool.{false}
 use mathlib.Core.List.{List, [], _∷_}
-use Prim.Native.Nat.{ℕ, _≤_}
+use Prim.Native.Nat.{ℕ, _≤_, _<_}
 use lib.ListN.{length}
 use Rattle.model.specs.Causes.{Among}
 use Rattle.model.specs.Recording.{Recording}
@@ -17,8 +17,8 @@ use Rattle.decision.specs.Decisions.{decided, decisionVerdict, decideSays, deci
 use Rattle.reach.specs.Tables.{tableVerdict, tableLeaves}
 use Rattle.recording.specs.Answers.{readSays, readLeaves}
 use Rattle.recording.specs.Grammar.{Reads, AsWritten}
-use Rattle.saving.specs.Answers.{saved, saveSays, saveLeaves}
-use Rattle.saving.specs.May.{MaySave}
+use Rattle.saving.specs.Answers.{saved, lentFile, saveSays, saveLeaves}
+use Rattle.saving.specs.May.{LentSequence, MaySave}
 use Rattle.law.specs.Claim2.{openState, EachTaken, Fits}
 use Rattle.numbers.specs.Checks.{MayOpen, MayTake, MayRun, MayDecide, MayTable}
 
@@ -144,6 +144,10 @@ ReadingAsWritten = (limit : ℕ) (bytes out : List ℕ) (r : Reads limit (length
 -- A sequence is saved exactly where `MaySave` holds.
 abbrev pub SavingExactly : Type 0
 SavingExactly = (n : ℕ) (w out : List ℕ) → (saveSays n w out .refusal ≡ 0) ↔ MaySave n w out
+
+-- 18 comes exactly where the output is shorter than the file, and nothing else is wrong.
+abbrev pub SavingEighteen : Type 0
+SavingEighteen = (n : ℕ) (w out : List ℕ) → (saveSays n w out .refusal ≡ 18) ↔ (LentSequence n w × (length out < length (lentFile n w)))
 
 -- WHAT FITS IS TAKEN. From every opening that its clauses let through, every recording over n boards within the limit, and under measure 2 within the
 -- footprint, is taken pick after pick. So the theorems of condition 2 are about something.

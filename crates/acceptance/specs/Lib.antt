@@ -5,8 +5,8 @@
 --   "Every answer is .. or one of the numbered refusals of document 01, for all input whatsoever": the contracts of the calls, none with a `requires`,
 --       are equations with definitions that are total. Which numbers a call gives: Condition1.OpeningNumbers, PickNumbers, LengthNumbers, WholeNumbers,
 --       DecisionNumbers, TableNumbers, ReadingNumbers, SavingNumbers. Exactly when none of them comes: Condition1.OpeningExactly, PickExactly, WholeExactly,
---       DecisionExactly, TableExactly, ReadingExactly, SavingExactly; of the length call LengthSixteen, LengthEight. Which cause has which number, and which
---       of several is named, is read off the definitions, in 01's order: `verdicts/specs/Verdicts`, `calls/specs/Calls.lengthSays`,
+--       DecisionExactly, TableExactly, ReadingExactly, SavingExactly; of the length call LengthSixteen, LengthEight; of 18 SavingEighteen. Which cause has
+--       which number, and which of several is named, is read off the definitions, in 01's order: `verdicts/specs/Verdicts`, `calls/specs/Calls.lengthSays`,
 --       `decision/specs/Decisions`, `reach/specs/Tables`, `commands/specs`, `saving/specs/Answers`
 --   "and it always comes": every function is proved to end
 --   "A refused pick changes neither the place record nor the work area": Condition1.PickRefused; the other calls: OpeningRefused, WholeRefused,
@@ -49,10 +49,11 @@
 --       compositions and m tests, plus the m - 1 of the list under measure 2": Decision.Decisions; "with both counts": CountsHeld; "the area ends as after a
 --       length": DecisionZero, BeyondDecision; in whatever area: DecisionInAnyArea; beside the lengths: DecisionsAndLengths; 17, and "condition 1 of the
 --       mission takes in the answers that requests add": Condition1.DecisionNumbers, DecisionRefused, DecisionExactly
---   A2, "Saving a recording": "With limit and output enough, the reader returns the same n and words from it", of a sequence without picks too:
---       Saving.SavedReadsBack; every file that is saved is one that the reader takes, to its last byte: SavedIsTaken; read, saved and read again: ReadAndSaved;
---       the order of its commands: SavedInOrder; "its length answered and later bytes left as they were": SavedBeyond; recording A: SavesA; bytes that
---       are always enough: BytesEnough; 18, and nothing written: Condition1.SavingNumbers, SavingRefused, SavingExactly
+--   A2, "Saving a recording": "A lent sequence becomes a recording file": Saving.SavedIsTheFile; "With limit and output enough, the reader returns the same
+--       n and words from it": SavedReadsBack; every file that is saved is one that the reader takes, to its last byte: SavedIsTaken; read, saved and read
+--       again: ReadAndSaved; the order of its commands: SavedInOrder; "its length answered and later bytes left as they were": SavedBeyond; recording A:
+--       SavesA; "A sequence without picks is written too": SavesNone; bytes that are always enough: BytesEnough; 18, and nothing written:
+--       Condition1.SavingNumbers, SavingRefused, SavingExactly, SavingEighteen
 pub mod Condition1
 pub mod Condition2
 pub mod Condition3

@@ -2,14 +2,22 @@
 -- sentence on the grammar's commands. Which numbers the call gives, when, and that a refused call changes nothing: Condition1.
 use mathlib.Core.Path.{_≡_}
 use mathlib.Core.List.{List, [], _∷_, _++_}
-use Prim.Native.Nat.{ℕ, _+_, _*_, _-_, _/_, _≤_}
+use Prim.Native.Nat.{ℕ, _+_, _*_, _-_, _/_, _≤_, _<_}
 use lib.ListN.{length, getD, take, drop}
+use Rattle.checks.specs.Lent.{lentPicks}
 use Rattle.recording.specs.Answers.{read, readAt, readSays, readLeaves, readAtSays}
 use Rattle.recording.specs.Grammar.{Reads}
+use Rattle.saving.specs.File.{file}
 use Rattle.saving.specs.Answers.{saved, saveSays, saveLeaves, savedFile}
 use Rattle.saving.specs.May.{Enough}
 use Rattle.saving.specs.Order.{InOrder}
 use Rattle.acceptance.specs.Cases.{A}
+
+-- THE FILE. What is written is the file of the recording lent, whatever the output was, and its length is answered: the same words always give the same
+-- bytes.
+abbrev pub SavedIsTheFile : Type 0
+SavedIsTheFile = (n : ℕ) (w out : List ℕ) → saveSays n w out .refusal ≡ 0
+    → (savedFile n w out ≡ file n (lentPicks n w (length w / n))) × (saveSays n w out .length ≡ length (file n (lentPicks n w (length w / n))))
 
 -- THE ROUND TRIP. "With limit and output enough, the reader returns the same n and words from it": of every sequence that is saved, also of one without
 -- picks, n, the number of picks and the words come back; the words beyond them stay.
@@ -55,8 +63,15 @@ SavedBeyond = (n : ℕ) (w out : List ℕ) → (length (saveLeaves n w out) ≡ 
 abbrev pub BytesEnough : Type 0
 BytesEnough = (n : ℕ) (w out : List ℕ) → 3 + length w / n * (n * (3 * (n - 1)) + 1) ≤ length out → saveSays n w out .refusal ≡ 18 → ⊥
 
--- Recording A gives the 28 bytes of document 01, in every output that has as many, and no fewer.
+-- Recording A gives the 28 bytes of document 01, in every output that has as many; in a shorter one it is 18.
 abbrev pub SavesA : Type 0
-SavesA = (out : List ℕ) → 28 ≤ length out → (saveSays 2 A out ≡ saved 0 28)
+SavesA = (out : List ℕ)
+    → (28 ≤ length out → (saveSays 2 A out ≡ saved 0 28)
     × (savedFile 2 A out ≡ 0x42 ∷ 0x02 ∷ 0x4F ∷ 0x00 ∷ 0x01 ∷ 0x50 ∷ 0x53 ∷ 0x00 ∷ 0x01 ∷ 0x4F ∷ 0x01 ∷ 0x00 ∷ 0x50 ∷ 0x53 ∷ 0x01 ∷ 0x00 ∷ 0x4F ∷ 0x00
-    ∷ 0x01 ∷ 0x50 ∷ 0x53 ∷ 0x00 ∷ 0x01 ∷ 0x4F ∷ 0x01 ∷ 0x00 ∷ 0x50 ∷ 0x45 ∷ [])
+    ∷ 0x01 ∷ 0x50 ∷ 0x53 ∷ 0x00 ∷ 0x01 ∷ 0x4F ∷ 0x01 ∷ 0x00 ∷ 0x50 ∷ 0x45 ∷ []))
+    × (length out < 28 → saveSays 2 A out ≡ saved 18 0)
+
+-- "A sequence without picks is written too": 42 n 45.
+abbrev pub SavesNone : Type 0
+SavesNone = (n : ℕ) (out : List ℕ) → 2 ≤ n → n ≤ 32 → 3 ≤ length out
+    → (saveSays n [] out ≡ saved 0 3) × (savedFile n [] out ≡ 0x42 ∷ n ∷ 0x45 ∷ [])

@@ -190,20 +190,22 @@ connected-test n R t n32 low a = full-test n (Leads R) (within n mostLinks t) (�
         let q = walks hw y in
         (suc (q .0), step (a .marks u w hu hw .1 x) (q .1))
 
+-- tables whose words are found the same are equal
+pub same-equal : (n : ℕ) (left right : List ℕ) → Words n left → Words n right → T (same n left right) → right ≡ left
+unfolding same rowSame
+same-equal n l t p q m =
+    let z = q .size in
+    ext-getD 0 t l (z ∙ sym (p .size)) (λ u h. eqb→eq (getD t u 0) (getD l u 0) (every-out (rowSame l t) n m u (omega arith)))
+
 -- measure 2: the words are those of the footprint exactly when R is
 pub same-test : (n : ℕ) (R : ℕ → ℕ → Type 0) (footprint t : List ℕ) → Clean n footprint → Below n R → Marks n R t
     → T (same n footprint t) ↔ ((u v : ℕ) → R u v ↔ T (link footprint u v))
 unfolding same rowSame
 same-test n R l t k low a = (
-  λ m. let e = equal m in λ u v. (
+  λ m. let e = same-equal n l t (k .words) (a .clean .words) m in λ u v. (
     λ x. let h = low u v x in subst (λ (z : List ℕ). T (link z u v)) e (a .marks u v (h .0) (h .1) .1 x),
     λ x. a .marks u v (link-from n l (k .words) u v x) (link-to n l (k .words) u v x) .0 (subst (λ (z : List ℕ). T (link z u v)) (sym e) x),
   ),
   λ f. let e : t ≡ l = marks-once a (record { clean = k; marks = λ u v hu hv. (λ x. f u v .1 x, λ x. f u v .0 x) }) in
       every-in (rowSame l t) n (λ u hu. eq-refl (ap (λ (z : List ℕ). getD z u 0) e)),
 )
-  where
-    equal : T (same n l t) → t ≡ l
-    equal m =
-        let z = a .clean .words .size in
-        ext-getD 0 t l (z ∙ sym (k .words .size)) (λ u h. eqb→eq (getD t u 0) (getD l u 0) (every-out (rowSame l t) n m u (omega arith)))

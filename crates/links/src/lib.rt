@@ -106,14 +106,14 @@ pub fn intersect_into(t: &mut [u32], right: &[u32], n: usize)
 
 // ---- tests: the bits that differ are gathered, so that the loop has no branch
 
-// Whether the n words of the table are those of the footprint.
-pub fn is_same(footprint: &[u32], t: &[u32], n: usize) -> bool
-    requires { ⌜ (n ≤ length (now footprint)) × (n ≤ length (now t)) ⌝ }
-    ensures { λ r. ⌜ r ≡ same n (now (footprint .entry)) (now (t .entry)) ⌝ }
+// Whether two tables have the same n words.
+pub fn is_same(left: &[u32], right: &[u32], n: usize) -> bool
+    requires { ⌜ (n ≤ length (now left)) × (n ≤ length (now right)) ⌝ }
+    ensures { λ r. ⌜ r ≡ same n (now (left .entry)) (now (right .entry)) ⌝ }
 {
     let mut bad = 0u32;
     for u in 0..n {
-        bad = bad | (t[u] ^ footprint[u]);
+        bad = bad | (right[u] ^ left[u]);
     }
     bad == 0
 }

@@ -1,52 +1,34 @@
 -- A link flipped changes its own bit and no other: a pick stays one without a forbidden bit. Assumes nothing.
-use mathlib.Core.Path.{_≡_, refl, sym, ap, _∙_, subst}
+use mathlib.Core.Path.{_≡_, refl, sym, ap, _∙_}
 use mathlib.Core.Bool.{Bool, true, false, not, _&&_, cond}
 use mathlib.Core.List.{List}
-use Prim.Native.Nat.{ℕ, zero, suc, _+_, _-_, _/_, _%_, _^_, _<_}
-use native.Mathlib.Nat.{div-eq-of-lt, mul-mod-left, pow-suc, mod-lt, zero-lt-suc, one-mul}
+use Prim.Native.Nat.{ℕ, _^_, _<_}
 use native.Mathlib.Omega.{arith}
-use borrow.Author.Tests.{ltb-true, ltb-false, eqb-true, eqb-false}
-use lib.Bits.{bitXor, xor-shr, xor-mod, xor-zero-r, xor-lt}
-use lib.Dec.{T, ltb, eqb}
+use borrow.Author.Tests.{eq-eqb, ne-eqb, eqb-true, eqb-false}
+use lib.Bits.{bitXor, xor-lt}
+use lib.Dec.{T, eqb}
 use lib.ListN.{length, getD, length-set}
-use lib.Pow.{pow-add, pow-lt, shl-shr}
+use lib.Pow.{pow-lt}
 use lib.Seq.{getD-set-same, getD-set-other}
 use Rattle.model.specs.Recording.{bit, link, Clean}
+use Rattle.model.proofs.Bits.{bit-xor, bit-one}
 use Rattle.model.proofs.Logic.{tr}
 use Rattle.recording.specs.Format.{flipped}
 use Rattle.commands.proofs.Admit.{Linkable}
 
--- 2 ^ t has bit t only
-pow-bit : (t b : ℕ) → (b ≡ t → ⊥) → 2 ^ t / 2 ^ b % 2 ≡ 0
-pow-bit t b h = by (ltb b t) refl
-  where
-    by : (x : Bool) → ltb b t ≡ x → 2 ^ t / 2 ^ b % 2 ≡ 0
-    by true e =
-        let l = ltb-true b t e in
-        let k : t ≡ suc (t - b - 1) + b = omega arith in
-        rw (k, pow-add, shl-shr, pow-suc) (mul-mod-left (2 ^ (t - b - 1)) 2)
-    by false e =
-        let g = ltb-false b t e in
-        let k : t < b = omega (arith, h) in
-        rw (div-eq-of-lt (pow-lt k))
-
 xor-other : (w t b : ℕ) → (b ≡ t → ⊥) → bit (bitXor w (2 ^ t)) b ≡ bit w b
-unfolding bit
-xor-other w t b h =
-    let e : bitXor w (2 ^ t) / 2 ^ b % 2 ≡ w / 2 ^ b % 2 =
-    rw (xor-shr w (2 ^ t) b, xor-mod (w / 2 ^ b) (2 ^ t / 2 ^ b) 1, pow-bit t b h) (xor-zero-r (w / 2 ^ b % 2)) in
-    ap (λ (x : ℕ). eqb x 1) e
+xor-other w t b h = bit-xor w (2 ^ t) b ∙ rw (bit-one t b, ne-eqb t b (λ e. h (sym e))) (by (bit w b))
+  where
+    by : (x : Bool) → cond x true false ≡ x
+    by true = refl
+    by false = refl
 
 xor-same : (w t : ℕ) → bit (bitXor w (2 ^ t)) t ≡ not (bit w t)
-unfolding bit
-xor-same w t =
-    let o : 2 ^ t / 2 ^ t ≡ 1 = ap (λ (x : ℕ). x / 2 ^ t) (sym (one-mul (2 ^ t))) ∙ shl-shr 1 t in
-    let e : bitXor w (2 ^ t) / 2 ^ t % 2 ≡ bitXor (w / 2 ^ t % 2) 1 = rw (xor-shr w (2 ^ t) t, xor-mod (w / 2 ^ t) (2 ^ t / 2 ^ t) 1, o) in
-    ap (λ (x : ℕ). eqb x 1) e ∙ digit (w / 2 ^ t % 2) (mod-lt (w / 2 ^ t) (zero-lt-suc 1))
+xor-same w t = bit-xor w (2 ^ t) t ∙ rw (bit-one t t, eq-eqb t t refl) (by (bit w t))
   where
-    digit : (d : ℕ) → d < 2 → eqb (bitXor d 1) 1 ≡ not (eqb d 1)
-    digit zero h = refl
-    digit (suc d) h = let z : suc d ≡ 1 = omega arith in subst (λ (y : ℕ). eqb (bitXor y 1) 1 ≡ not (eqb y 1)) (sym z) refl
+    by : (x : Bool) → cond x false true ≡ not x
+    by true = refl
+    by false = refl
 
 -- word a of the links: the changed one, or as it was
 module _ (links : List ℕ) (f t a : ℕ) where

@@ -1,7 +1,6 @@
 -- The laws of the reader, what later work builds on, and the lemmas of the proofs.
 pub mod Laws
 pub mod Causes
-pub mod Inverse
 pub mod Examples
 pub mod Others
 pub mod Written

@@ -6,9 +6,9 @@ use Prim.Native.Nat.{ℕ, zero, suc, _+_, _≤_, _<_}
 use native.Mathlib.Nat.{not-suc-le-zero, eq-or-lt-of-le, le-of-suc-le-suc}
 use native.Mathlib.Omega.{arith}
 use lib.ListN.{length, length-append}
-use Rattle.recording.specs.Grammar.{Act, spell, spellAll}
+use Rattle.recording.specs.Grammar.{Act, spellAll}
 use Rattle.saving.specs.File.{each}
-use Rattle.saving.specs.Puts.{spelled}
+use Rattle.saving.specs.Puts.{bytesOf}
 
 -- what stands behind f 0, .., f k in f 0, .., f (m - 1)
 pub each-split : (f : ℕ → List Act) (m k : ℕ) → k < m → (post : List Act) × (each f m ≡ each f k ++ (f k ++ post))
@@ -25,24 +25,24 @@ unfolding each
 each-none f h zero = refl
 each-none f h (suc m) = rw (each-none f h m) (h m)
 
-pub spelled-append : (xs ys : List Act) → spelled (xs ++ ys) ≡ spelled xs ++ spelled ys
-unfolding spelled
-spelled-append [] ys = refl
-spelled-append (x ∷ xs) ys = rw (spelled-append xs ys, append-assoc)
+pub bytes-append : (xs ys : List Act) → bytesOf (xs ++ ys) ≡ bytesOf xs ++ bytesOf ys
+unfolding bytesOf
+bytes-append [] ys = refl
+bytes-append (x ∷ xs) ys = rw (bytes-append xs ys, append-assoc)
 
-pub spelled-length : (xs ys : List Act) → length (spelled (xs ++ ys)) ≡ length (spelled xs) + length (spelled ys)
-spelled-length xs ys = rw (spelled-append xs ys, length-append)
+pub bytes-length : (xs ys : List Act) → length (bytesOf (xs ++ ys)) ≡ length (bytesOf xs) + length (bytesOf ys)
+bytes-length xs ys = rw (bytes-append xs ys, length-append)
 
 -- the bytes of f 0, .., f k are no more
-pub each-within : (f : ℕ → List Act) (m k : ℕ) → k < m → length (spelled (each f k)) + length (spelled (f k)) ≤ length (spelled (each f m))
+pub each-within : (f : ℕ → List Act) (m k : ℕ) → k < m → length (bytesOf (each f k)) + length (bytesOf (f k)) ≤ length (bytesOf (each f m))
 each-within f m k h =
     let (post, q) = each-split f m k h in
-    let l : length (spelled (each f m)) ≡ length (spelled (each f k)) + (length (spelled (f k)) + length (spelled post)) =
-    rw (q, spelled-length, spelled-length) in
+    let l : length (bytesOf (each f m)) ≡ length (bytesOf (each f k)) + (length (bytesOf (f k)) + length (bytesOf post)) =
+    rw (q, bytes-length, bytes-length) in
     omega arith
 
 -- with the 45 behind them
-pub spelled-all : (xs : List Act) → spellAll xs ≡ spelled xs ++ (0x45 ∷ [])
-unfolding spelled spellAll
-spelled-all [] = refl
-spelled-all (x ∷ xs) = rw (spelled-all xs, append-assoc)
+pub bytes-all : (xs : List Act) → spellAll xs ≡ bytesOf xs ++ (0x45 ∷ [])
+unfolding bytesOf spellAll
+bytes-all [] = refl
+bytes-all (x ∷ xs) = rw (bytes-all xs, append-assoc)

@@ -104,6 +104,16 @@ module _ (n : ℕ) (w out : List ℕ) where
       let p4 = cause-past _ 5 _ (λ z. omega arith) (p3 .1) in
       lent-by (p1 .0) (p2 .0) (p3 .0) (p4 .0)
 
+  pub eighteen-exactly : (saveSays n w out .refusal ≡ 18) ↔ (LentSequence n w × (length out < length bytes))
+  eighteen-exactly = (
+    λ e. let s = eighteen-lent e in (
+      s,
+      ⊎-elim (λ (h : length bytes ≤ length out). let z = save-exactly .1 (record { lent = s; room = h }) in absurd (omega arith))
+          (λ (h : length out < length bytes). h) (le-or-lt (length bytes) (length out)),
+    ),
+    λ p. save-says ∙ short (p .0) (p .1),
+  )
+
   -- of a lent sequence it is refused by 18, or not at all
   pub save-room : LentSequence n w → (saveSays n w out .refusal ≡ 18 → ⊥) → MaySave n w out
   save-room s f =

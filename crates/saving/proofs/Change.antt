@@ -1,5 +1,5 @@
 -- The links while the commands of a pick are gone over: those passed are as they are to be, the others as they were. Assumes nothing.
-use mathlib.Core.Path.{_≡_, refl, sym, ap, _∙_}
+use mathlib.Core.Path.{_≡_, refl, sym, _∙_}
 use mathlib.Core.Bool.{Bool, true, false, not, _&&_, cond, true≢false}
 use mathlib.Core.Logic.{_⊎_, inl, inr, ⊎-elim, _≢_}
 use mathlib.Core.List.{List, [], _∷_, _++_}
@@ -7,12 +7,10 @@ use Prim.Native.Nat.{ℕ, zero, suc, _≤_, _<_}
 use native.Mathlib.Nat.{not-suc-le-zero, eq-or-lt-of-le, le-of-suc-le-suc}
 use native.Mathlib.Omega.{arith}
 use borrow.Author.Tests.{eq-eqb, ne-eqb}
-use lib.Dec.{eqb}
-use lib.ListN.{length}
 use Rattle.model.specs.Recording.{link, Clean}
 use Rattle.model.proofs.Logic.{F→≡, le-or-lt}
 use Rattle.model.proofs.Links.{link-from, link-to}
-use Rattle.recording.specs.Grammar.{Act, sets, pick, isOpen, befores, Follow}
+use Rattle.recording.specs.Grammar.{Act, sets, isOpen, befores, Follow}
 use Rattle.saving.specs.File.{each, becomes, linkActs, rowActs, tableActs, changeActs}
 use Rattle.saving.proofs.Follows.{after, after-append, follow-append, befores-append}
 
@@ -61,19 +59,19 @@ module _ {f g : ℕ → ℕ → Bool} {a k : ℕ} where
 
 -- ---- commands that lead so far
 
-record Leads (n : ℕ) (e xs : List Act) (f g : ℕ → ℕ → Bool) (a k : ℕ) : Type 0 where
+record UpTo (n : ℕ) (e xs : List Act) (f g : ℕ → ℕ → Bool) (a k : ℕ) : Type 0 where
   follow : Follow n e xs
   part : Partway f g a k (isOpen (after e xs))
   -- no pick is among them
   none : befores e xs ≡ []
 
-leads-none : (n : ℕ) {e : List Act} {f g : ℕ → ℕ → Bool} {a k : ℕ} → Partway f g a k (isOpen e) → Leads n e [] f g a k
+up-to-none : (n : ℕ) {e : List Act} {f g : ℕ → ℕ → Bool} {a k : ℕ} → Partway f g a k (isOpen e) → UpTo n e [] f g a k
 unfolding Follow befores
-leads-none n p = record { follow = tt; part = p; none = refl }
+up-to-none n p = record { follow = tt; part = p; none = refl }
 
-leads-on : (n : ℕ) {e : List Act} (xs ys : List Act) {f g : ℕ → ℕ → Bool} {a k c j : ℕ} → Leads n e xs f g a k → Leads n (after e xs) ys f g c j
-    → Leads n e (xs ++ ys) f g c j
-leads-on n {e} xs ys l m =
+up-to-on : (n : ℕ) {e : List Act} (xs ys : List Act) {f g : ℕ → ℕ → Bool} {a k c j : ℕ} → UpTo n e xs f g a k → UpTo n (after e xs) ys f g c j
+    → UpTo n e (xs ++ ys) f g c j
+up-to-on n {e} xs ys l m =
     record {
       follow = follow-append n e xs ys (l .follow) (m .follow);
       part = rw (after-append e xs ys) (m .part);
@@ -89,11 +87,11 @@ record Differ (x : Bool) (old new : List ℕ) (n : ℕ) (f g : ℕ → ℕ → B
   beyond : (a b : ℕ) → (n ≤ a) ⊎ (n ≤ b) → f a b ≡ g a b
 
 module _ {x : Bool} {old new : List ℕ} {n : ℕ} {f g : ℕ → ℕ → Bool} (t : Differ x old new n f g) where
-  one : (a k : ℕ) (e : List Act) → a < n → k < n → Partway f g a k (isOpen e) → Leads n e (linkActs x old new a k) f g a (suc k)
+  one : (a k : ℕ) (e : List Act) → a < n → k < n → Partway f g a k (isOpen e) → UpTo n e (linkActs x old new a k) f g a (suc k)
   unfolding linkActs
   one a k e h i p = by (becomes x (link old a k) (link new a k)) refl
     where
-      by : (y : Bool) → becomes x (link old a k) (link new a k) ≡ y → Leads n e (cond y (sets x a k ∷ []) []) f g a (suc k)
+      by : (y : Bool) → becomes x (link old a k) (link new a k) ≡ y → UpTo n e (cond y (sets x a k ∷ []) []) f g a (suc k)
       by true q =
           record {
             follow = unfold Follow in
@@ -101,14 +99,14 @@ module _ {x : Bool} {old new : List ℕ} {n : ℕ} {f g : ℕ → ℕ → Bool} 
             part = part-set e x p (t .behind a k q);
             none = unfold befores in refl;
           }
-      by false q = leads-none n (part-stay p (t .stays a k q))
+      by false q = up-to-none n (part-stay p (t .stays a k q))
 
-  row : (a : ℕ) (e : List Act) → a < n → Partway f g a 0 (isOpen e) → (k : ℕ) → k ≤ n → Leads n e (each (linkActs x old new a) k) f g a k
+  row : (a : ℕ) (e : List Act) → a < n → Partway f g a 0 (isOpen e) → (k : ℕ) → k ≤ n → UpTo n e (each (linkActs x old new a) k) f g a k
   unfolding each
-  row a e h p zero i = leads-none n p
+  row a e h p zero i = up-to-none n p
   row a e h p (suc k) i =
       let l = row a e h p k (omega arith) in
-      leads-on n (each (linkActs x old new a) k) (linkActs x old new a k) l (one a k (after e (each (linkActs x old new a) k)) h i (l .part))
+      up-to-on n (each (linkActs x old new a) k) (linkActs x old new a k) l (one a k (after e (each (linkActs x old new a) k)) h i (l .part))
 
   part-row : {a : ℕ} {h : ℕ → ℕ → Bool} → Partway f g a n h → Partway f g (suc a) 0 h
   part-row {a} {h} p =
@@ -122,13 +120,13 @@ module _ {x : Bool} {old new : List ℕ} {n : ℕ} {f g : ℕ → ℕ → Bool} 
       whole : (v : ℕ) → h a v ≡ g a v
       whole v = ⊎-elim (λ (i : n ≤ v). p .right v i ∙ t .beyond a v (inr i)) (λ (i : v < n). p .left v i) (le-or-lt n v)
 
-  rows : (e : List Act) → Partway f g 0 0 (isOpen e) → (a : ℕ) → a ≤ n → Leads n e (each (rowActs x old new n) a) f g a 0
+  rows : (e : List Act) → Partway f g 0 0 (isOpen e) → (a : ℕ) → a ≤ n → UpTo n e (each (rowActs x old new n) a) f g a 0
   unfolding each rowActs
-  rows e p zero h = leads-none n p
+  rows e p zero h = up-to-none n p
   rows e p (suc a) h =
       let l = rows e p a (omega arith) in
       let r = row a (after e (each (rowActs x old new n) a)) h (l .part) n (omega arith) in
-      leads-on n (each (rowActs x old new n) a) (rowActs x old new n a) l
+      up-to-on n (each (rowActs x old new n) a) (rowActs x old new n a) l
       record { follow = r .follow; part = part-row (r .part); none = r .none }
 
 -- ---- commands that lead from one set of links to another

@@ -5,8 +5,8 @@ use mathlib.Core.List.{List, [], _++_, append-nil}
 use Prim.Native.Nat.{ℕ, zero, suc, _+_, _*_, _-_, _/_, _≤_, zero-le}
 use native.Mathlib.Nat.{zero-mul, suc-mul, mul-div-cancel, le-refl}
 use native.Mathlib.Omega.{arith}
-use lib.ListN.{length, getD, take, drop, length-append}
-use lib.Seq.{take-add, take-length, take-at, length-take-le}
+use lib.ListN.{length, getD, take, drop}
+use lib.Seq.{take-add, take-length, take-at}
 use Rattle.model.specs.Recording.{Recording}
 use Rattle.model.proofs.Logic.{eq-or}
 use Rattle.lists.specs.Tab.{splice}
@@ -15,12 +15,12 @@ use Rattle.links.specs.Picks.{lentPick}
 use Rattle.checks.specs.Lent.{lentPicks}
 use Rattle.checks.proofs.Lent.{length-lent}
 use Rattle.recording.specs.Format.{Content, ended, refused, recordingAt, readFile, words, outputAfter}
-use Rattle.recording.specs.Answers.{Read, read, readAt, fileSays, partSays, partOf, readSays, readLeaves, readAtSays}
+use Rattle.recording.specs.Answers.{Read, read, readAt, fileSays, readSays, readLeaves, readAtSays}
 use Rattle.recording.specs.Grammar.{Reads}
 use Rattle.recording.proofs.Laws.{number-positive, length-words, lent-back, is-alone}
 use Rattle.recording.proofs.Grammar.{reads-exactly}
 use Rattle.recording.proofs.Written.{words-snoc}
-use Rattle.saving.specs.Answers.{Saved, saved, lentFile, saveSays, saveLeaves, savedFile}
+use Rattle.saving.specs.Answers.{Saved, lentFile, saveSays, saveLeaves, savedFile}
 use Rattle.saving.specs.May.{LentSequence, MaySave, Enough}
 use Rattle.saving.proofs.Causes.{save-exactly, save-fits, save-refused}
 use Rattle.saving.proofs.Most.{file-most}

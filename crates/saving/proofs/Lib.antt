@@ -6,7 +6,7 @@ pub mod Trip
 pub mod Change
 pub mod Follows
 pub mod Acts
-pub mod Turns
+pub mod Lends
 pub mod Size
 pub mod Most
 pub mod Put

@@ -9,11 +9,11 @@ use native.Mathlib.Omega.{arith}
 use lib.ListN.{length, getD}
 use Rattle.model.specs.Recording.{link, Clean, Recording}
 use Rattle.model.proofs.Logic.{F→≡}
-use Rattle.saving.specs.File.{each, linkActs, rowActs, tableActs, changeActs, pickActs, linksAt, turnActs, file}
-use Rattle.saving.specs.Puts.{spelled}
-use Rattle.saving.proofs.Acts.{spelled-length}
+use Rattle.saving.specs.File.{each, linkActs, rowActs, tableActs, changeActs, pickActs, linksAt, actsAt, file}
+use Rattle.saving.specs.Puts.{bytesOf}
+use Rattle.saving.proofs.Acts.{bytes-length}
 use Rattle.saving.proofs.Size.{link-size, file-size}
-use Rattle.saving.proofs.Turns.{before-clean, pick-clean}
+use Rattle.saving.proofs.Lends.{before-clean, pick-clean}
 
 module _ (n : ℕ) (old new : List ℕ) (c : Clean n old) (d : Clean n new) where
   own-none : (x : Bool) (a b : ℕ) → a ≡ b → linkActs x old new a b ≡ []
@@ -23,36 +23,36 @@ module _ (n : ℕ) (old new : List ℕ) (c : Clean n old) (d : Clean n new) wher
 
   -- three bytes for each link of a row, none for its own
   row-most : (a k : ℕ)
-      → let l = length (spelled (each (linkActs false old new a) k)) + length (spelled (each (linkActs true old new a) k)) in
+      → let l = length (bytesOf (each (linkActs false old new a) k)) + length (bytesOf (each (linkActs true old new a) k)) in
       (k ≤ a → l ≤ 3 * k) × (a < k → l + 3 ≤ 3 * k)
-  unfolding each spelled
+  unfolding each bytesOf
   row-most a zero = (λ h. omega arith, λ h. absurd (not-suc-le-zero h))
   row-most a (suc k) =
       let i = row-most a k in
       let s = link-size old new a k in (
-        λ h. simp spelled-length (omega (arith, i .0 (omega arith))),
-        λ h. simp spelled-length
+        λ h. simp bytes-length (omega (arith, i .0 (omega arith))),
+        λ h. simp bytes-length
             (⊎-elim (λ (e : a ≡ k). let x = own-none false a k e in let y = own-none true a k e in rw (x, y) (omega (arith, i .0 (omega arith))))
             (λ (l : a < k). omega (arith, i .1 l)) (eq-or-lt-of-le (le-of-suc-le-suc h))),
       )
 
   rows-most : (a : ℕ) → a ≤ n
-      → length (spelled (each (rowActs false old new n) a)) + length (spelled (each (rowActs true old new n) a)) ≤ a * (3 * (n - 1))
-  unfolding each rowActs spelled
+      → length (bytesOf (each (rowActs false old new n) a)) + length (bytesOf (each (rowActs true old new n) a)) ≤ a * (3 * (n - 1))
+  unfolding each rowActs bytesOf
   rows-most zero h = omega (arith, zero-mul (3 * (n - 1)))
-  rows-most (suc a) h = simp spelled-length (omega (arith, rows-most a (omega arith), row-most a n .1 h, suc-mul a (3 * (n - 1))))
+  rows-most (suc a) h = simp bytes-length (omega (arith, rows-most a (omega arith), row-most a n .1 h, suc-mul a (3 * (n - 1))))
 
-  pick-most : length (spelled (pickActs n old new)) ≤ n * (3 * (n - 1)) + 1
-  unfolding pickActs changeActs tableActs spelled
-  pick-most = rw (spelled-length, spelled-length) (omega (arith, rows-most n (le-refl n)))
+  pick-most : length (bytesOf (pickActs n old new)) ≤ n * (3 * (n - 1)) + 1
+  unfolding pickActs changeActs tableActs bytesOf
+  pick-most = rw (bytes-length, bytes-length) (omega (arith, rows-most n (le-refl n)))
 
 turns-most : (n : ℕ) (picks : List (List ℕ)) → Recording n picks → (k : ℕ) → k ≤ length picks
-    → length (spelled (each (turnActs n picks) k)) ≤ k * (n * (3 * (n - 1)) + 1)
-unfolding each turnActs spelled
+    → length (bytesOf (each (actsAt n picks) k)) ≤ k * (n * (3 * (n - 1)) + 1)
+unfolding each actsAt bytesOf
 turns-most n picks r zero h = omega arith
 turns-most n picks r (suc k) h =
     let m = pick-most n (linksAt n picks k) (getD picks k []) (before-clean n picks r k (omega arith)) (pick-clean n picks r k h) in
-    rw spelled-length (omega (arith, turns-most n picks r k (omega arith), suc-mul k (n * (3 * (n - 1)) + 1)))
+    rw bytes-length (omega (arith, turns-most n picks r k (omega arith), suc-mul k (n * (3 * (n - 1)) + 1)))
 
 pub file-most : (n : ℕ) (picks : List (List ℕ)) → Recording n picks → length (file n picks) ≤ 3 + length picks * (n * (3 * (n - 1)) + 1)
 file-most n picks r = rw (sym (file-size n picks (length picks) refl)) (omega (arith, turns-most n picks r (length picks) (le-refl (length picks))))

@@ -1,5 +1,5 @@
 -- The file of a recording is in the order of the request. Assumes nothing.
-use mathlib.Core.Path.{_≡_, refl, sym, ap, _∙_}
+use mathlib.Core.Path.{_≡_, refl, sym, _∙_}
 use mathlib.Core.Bool.{Bool, true, false, cond, true≢false}
 use mathlib.Core.Logic.{_⊎_, inl, inr, ⊎-elim}
 use mathlib.Core.List.{List, [], _∷_, _++_}
@@ -8,8 +8,8 @@ use native.Mathlib.Nat.{le-refl}
 use native.Mathlib.Omega.{arith}
 use Rattle.model.specs.Recording.{link}
 use Rattle.recording.specs.Grammar.{Act, sets, pick, isOpen}
-use Rattle.saving.specs.File.{each, becomes, linkActs, rowActs, tableActs, changeActs, pickActs, turnActs}
-use Rattle.saving.specs.Order.{Before, Ordered, lastOf, Left}
+use Rattle.saving.specs.File.{each, becomes, linkActs, rowActs, tableActs, changeActs, pickActs, actsAt}
+use Rattle.saving.specs.Order.{Before, Ordered, lastOf, Lasting}
 use Rattle.saving.proofs.Follows.{after}
 
 pub ordered-append : (e : Act) (xs ys : List Act) → Ordered e xs → Ordered (lastOf e xs) ys → Ordered e (xs ++ ys)
@@ -96,14 +96,14 @@ module _ (n : ℕ) (old new : List ℕ) where
       behind (sets x a b) = tt
       behind pick = tt
 
-pub file-ordered : (n : ℕ) (picks : List (List ℕ)) (k : ℕ) → Ordered pick (each (turnActs n picks) k) × (lastOf pick (each (turnActs n picks) k) ≡ pick)
-unfolding each turnActs
+pub file-ordered : (n : ℕ) (picks : List (List ℕ)) (k : ℕ) → Ordered pick (each (actsAt n picks) k) × (lastOf pick (each (actsAt n picks) k) ≡ pick)
+unfolding each actsAt
 file-ordered n picks zero = (unfold Ordered in tt, unfold lastOf in refl)
 file-ordered n picks (suc k) =
     let (o, l) = file-ordered n picks k in
     let (p, q) = pick-ordered n _ _ in
-    let xs = each (turnActs n picks) k in
-    (ordered-append pick xs (turnActs n picks k) o (rw l p), last-append pick xs (turnActs n picks k) ∙ rw l q)
+    let xs = each (actsAt n picks) k in
+    (ordered-append pick xs (actsAt n picks k) o (rw l p), last-append pick xs (actsAt n picks k) ∙ rw l q)
 
 -- ---- the links that are named
 
@@ -153,20 +153,20 @@ module _ (n : ℕ) (old new : List ℕ) (g : ℕ → ℕ → Bool) (same : (a b 
   named-change = named-append SetSo (tableActs false old new n) (tableActs true old new n) (named-table false) (named-table true)
 
 -- behind a pick no link is named yet
-pub left-pick : (w e : List Act) → Left w (pick ∷ e)
-unfolding Left
+pub left-pick : (w e : List Act) → Lasting w (pick ∷ e)
+unfolding Lasting
 left-pick w e = tt
 
-left-after : (w e xs : List Act) → Named (λ x a b. isOpen w a b ≡ x) xs → Left w e → Left w (after e xs)
-unfolding Named Left
+left-after : (w e xs : List Act) → Named (λ x a b. isOpen w a b ≡ x) xs → Lasting w e → Lasting w (after e xs)
+unfolding Named Lasting
 left-after w e [] h l = l
 left-after w e (sets x a b ∷ xs) h l = left-after w (sets x a b ∷ e) xs (h .1) (h .0, l)
 left-after w e (pick ∷ xs) h l = left-after w (pick ∷ e) xs h tt
 
 -- before its 50 each link that a pick's commands name is as they set it
 pub change-left : (n : ℕ) (old new : List ℕ) (earlier : List Act)
-    → ((u v : ℕ) → isOpen (after earlier (changeActs n old new)) u v ≡ link new u v) → ((w : List Act) → Left w earlier)
-    → Left (after earlier (changeActs n old new)) (after earlier (changeActs n old new))
+    → ((u v : ℕ) → isOpen (after earlier (changeActs n old new)) u v ≡ link new u v) → ((w : List Act) → Lasting w earlier)
+    → Lasting (after earlier (changeActs n old new)) (after earlier (changeActs n old new))
 change-left n old new earlier h l =
     let w = after earlier (changeActs n old new) in
     left-after w earlier (changeActs n old new) (named-change n old new (isOpen w) h) (l w)

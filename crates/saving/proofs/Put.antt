@@ -12,8 +12,8 @@ use Rattle.lists.specs.Tab.{splice}
 use Rattle.lists.proofs.Splice.{splice-more, splice-set, splice-none, splice-length}
 use Rattle.recording.specs.Grammar.{Act, code, sets, pick, spellFile}
 use Rattle.saving.specs.File.{each}
-use Rattle.saving.specs.Puts.{spelled, Puts}
-use Rattle.saving.proofs.Acts.{each-within, spelled-append, spelled-length, spelled-all}
+use Rattle.saving.specs.Puts.{bytesOf, Puts}
+use Rattle.saving.proofs.Acts.{each-within, bytes-append, bytes-length, bytes-all}
 
 -- a byte behind those that are put
 set-more : (at e v : ℕ) (xs out : List ℕ) {j : ℕ} → length xs ≡ e → j ≡ at + e → j < length out
@@ -32,60 +32,60 @@ set-three at x y z out room = rw (set-two at x y out (omega arith)) (set-more at
 -- ---- commands put
 
 pub puts-none : {out : List ℕ} {at : ℕ} {xs : List Act} → xs ≡ [] → Puts out out at at xs
-unfolding spelled
-puts-none {out} {at} e = record { place = rw (e, add-zero); made = rw e (splice-none at out) }
+unfolding bytesOf
+puts-none {out} {at} e = record { ends = rw (e, add-zero); made = rw e (splice-none at out) }
 
 pub puts-link : {x : Bool} {a b at c : ℕ} {out : List ℕ} → c ≡ code x → at + 3 ≤ length out
     → Puts out (set (set (set out at c) (at + 1) a) (at + 2) b) at (at + 3) (sets x a b ∷ [])
-unfolding spelled
-puts-link {x} {a} {b} {at} {c} {out} e room = record { place = refl; made = rw e (set-three at (code x) a b out room) }
+unfolding bytesOf
+puts-link {x} {a} {b} {at} {c} {out} e room = record { ends = refl; made = rw e (set-three at (code x) a b out room) }
 
 pub puts-pick : {at : ℕ} {out : List ℕ} → at < length out → Puts out (set out at 0x50) at (at + 1) (pick ∷ [])
-unfolding spelled
-puts-pick {at} {out} room = record { place = refl; made = splice-set at 0x50 out room }
+unfolding bytesOf
+puts-pick {at} {out} room = record { ends = refl; made = splice-set at 0x50 out room }
 
-module _ {out after : List ℕ} {at mid : ℕ} {xs : List Act} (room : at + length (spelled xs) ≤ length out) (p : Puts out after at mid xs) where
+module _ {out after : List ℕ} {at mid : ℕ} {xs : List Act} (room : at + length (bytesOf xs) ≤ length out) (p : Puts out after at mid xs) where
   pub puts-long : length after ≡ length out
-  puts-long = ap length (p .made) ∙ splice-length at (length (spelled xs)) (spelled xs) out refl (omega arith) room
+  puts-long = ap length (p .made) ∙ splice-length at (length (bytesOf xs)) (bytesOf xs) out refl (omega arith) room
 
   -- others behind them
   pub puts-more : {last : List ℕ} {behind : ℕ} {ys : List Act} → Puts after last mid behind ys → Puts out last at behind (xs ++ ys)
   puts-more {ys = ys} q = record {
-    place = q .place ∙ rw (p .place, spelled-length xs ys) (omega arith);
-    made = q .made ∙ rw (p .made, spelled-length xs ys, spelled-append xs ys)
-        (splice-more at (length (spelled xs)) (spelled xs) out refl (omega arith) mid (length (spelled ys)) (spelled ys) (p .place));
+    ends = q .ends ∙ rw (p .ends, bytes-length xs ys) (omega arith);
+    made = q .made ∙ rw (p .made, bytes-length xs ys, bytes-append xs ys)
+        (splice-more at (length (bytesOf xs)) (bytesOf xs) out refl (omega arith) mid (length (bytesOf ys)) (bytesOf ys) (p .ends));
   }
 
 -- room for both is room for each
-module _ (out : List ℕ) (at : ℕ) (xs ys : List Act) (room : at + length (spelled (xs ++ ys)) ≤ length out) where
-  pub first-room : at + length (spelled xs) ≤ length out
-  first-room = omega (arith, spelled-length xs ys)
+module _ (out : List ℕ) (at : ℕ) (xs ys : List Act) (room : at + length (bytesOf (xs ++ ys)) ≤ length out) where
+  pub first-room : at + length (bytesOf xs) ≤ length out
+  first-room = omega (arith, bytes-length xs ys)
 
-  pub second-room : {after : List ℕ} {mid : ℕ} → Puts out after at mid xs → mid + length (spelled ys) ≤ length after
-  second-room p = omega (arith, spelled-length xs ys, p .place, puts-long first-room p)
+  pub second-room : {after : List ℕ} {mid : ℕ} → Puts out after at mid xs → mid + length (bytesOf ys) ≤ length after
+  second-room p = omega (arith, bytes-length xs ys, p .ends, puts-long first-room p)
 
 -- ---- the loops
 
 -- The invariant of a loop that writes f 0, f 1, .., f (m - 1) from `at` on: those before k are put.
 pub record Wrote (f : ℕ → List Act) (m at : ℕ) (out₀ out : List ℕ) (next k : ℕ) : Type 0 where
-  pub room : at + length (spelled (each f m)) ≤ length out₀
+  pub room : at + length (bytesOf (each f m)) ≤ length out₀
   pub low : k ≤ m
   pub puts : Puts out₀ out at next (each f k)
 
-pub wrote-start : {f : ℕ → List Act} {m at : ℕ} {out₀ : List ℕ} → at + length (spelled (each f m)) ≤ length out₀ → Wrote f m at out₀ out₀ at 0
+pub wrote-start : {f : ℕ → List Act} {m at : ℕ} {out₀ : List ℕ} → at + length (bytesOf (each f m)) ≤ length out₀ → Wrote f m at out₀ out₀ at 0
 unfolding each
 wrote-start h = record { room = h; low = zero-le; puts = puts-none refl }
 
 module _ {f : ℕ → List Act} {m at : ℕ} {out₀ out : List ℕ} {next k : ℕ} (w : Wrote f m at out₀ out next k) where
-  fits : at + length (spelled (each f k)) ≤ length out₀
+  fits : at + length (bytesOf (each f k)) ≤ length out₀
   fits =
       ⊎-elim (λ (e : k ≡ m). rw e (w .room)) (λ (h : k < m). omega (arith, each-within f m k h, w .room)) (eq-or-lt-of-le (w .low))
 
   pub wrote-long : length out ≡ length out₀
   wrote-long = puts-long fits (w .puts)
 
-  pub wrote-room : k < m → next + length (spelled (f k)) ≤ length out
-  wrote-room h = omega (arith, each-within f m k h, w .room, w .puts .place, wrote-long)
+  pub wrote-room : k < m → next + length (bytesOf (f k)) ≤ length out
+  wrote-room h = omega (arith, each-within f m k h, w .room, w .puts .ends, wrote-long)
 
   pub wrote-turn : k < m → {out₂ : List ℕ} {next₂ : ℕ} → Puts out out₂ next next₂ (f k) → Wrote f m at out₀ out₂ next₂ (k + 1)
   unfolding each
@@ -107,14 +107,14 @@ wrote-on {k = k} (suc j) l h z w =
 -- ---- the file: 42 and n, the commands, 45
 
 module _ (n : ℕ) (acts : List Act) (out : List ℕ) (room : length (spellFile n acts) ≤ length out) where
-  file-is : spellFile n acts ≡ (0x42 ∷ n ∷ []) ++ (spelled acts ++ (0x45 ∷ []))
+  file-is : spellFile n acts ≡ (0x42 ∷ n ∷ []) ++ (bytesOf acts ++ (0x45 ∷ []))
   unfolding spellFile
-  file-is = rw (spelled-all acts)
+  file-is = rw (bytes-all acts)
 
-  file-long : length (spellFile n acts) ≡ 2 + length (spelled acts) + 1
+  file-long : length (spellFile n acts) ≡ 2 + length (bytesOf acts) + 1
   file-long = rw (file-is, length-append, length-append) (omega arith)
 
-  pub file-room : 2 + length (spelled acts) + 1 ≤ length out
+  pub file-room : 2 + length (bytesOf acts) + 1 ≤ length out
   file-room = omega (arith, file-long)
 
   head : set (set out 0 0x42) 1 n ≡ splice 0 2 (0x42 ∷ n ∷ []) out
@@ -128,12 +128,12 @@ module _ (n : ℕ) (acts : List Act) (out : List ℕ) (room : length (spellFile 
     last-long = puts-long (omega (arith, file-room, head-long)) p ∙ head-long
 
     pub last-room : next < length last
-    last-room = omega (arith, file-room, last-long, p .place)
+    last-room = omega (arith, file-room, last-long, p .ends)
 
     pub file-put : set last next 0x45 ≡ splice 0 (length (spellFile n acts)) (spellFile n acts) out
     file-put =
-        let e : last ≡ splice 0 (2 + length (spelled acts)) ((0x42 ∷ n ∷ []) ++ spelled acts) out
-        = p .made ∙ rw head (splice-more 0 2 (0x42 ∷ n ∷ []) out refl zero-le 2 (length (spelled acts)) (spelled acts) refl) in
+        let e : last ≡ splice 0 (2 + length (bytesOf acts)) ((0x42 ∷ n ∷ []) ++ bytesOf acts) out
+        = p .made ∙ rw head (splice-more 0 2 (0x42 ∷ n ∷ []) out refl zero-le 2 (length (bytesOf acts)) (bytesOf acts) refl) in
         rw (e, file-long, file-is)
-        (set-more 0 (2 + length (spelled acts)) 0x45 ((0x42 ∷ n ∷ []) ++ spelled acts) out (omega arith) (omega (arith, p .place))
+        (set-more 0 (2 + length (bytesOf acts)) 0x45 ((0x42 ∷ n ∷ []) ++ bytesOf acts) out (omega arith) (omega (arith, p .ends))
         (omega (arith, last-room, last-long)))

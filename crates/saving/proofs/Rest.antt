@@ -17,7 +17,7 @@ use Rattle.links.specs.Tables.{without}
 use Rattle.links.proofs.Bits.{bit-left, bit-out}
 use Rattle.recording.specs.Grammar.{sets}
 use Rattle.saving.specs.File.{becomes, linkActs, rowActs}
-use Rattle.saving.specs.Puts.{spelled, Puts, Changed}
+use Rattle.saving.specs.Puts.{bytesOf, Puts, Changed}
 use Rattle.saving.proofs.Put.{Wrote, wrote-start, wrote-room, wrote-turn, wrote-long, wrote-on, wrote-all}
 
 -- a bit that is set where another is cleared was set before
@@ -39,7 +39,7 @@ pub record Passed (x : Bool) (old new : List ℕ) (n a at : ℕ) (out₀ out : L
   onward : (b : ℕ) → k ≤ b → b < n → bit rest b ≡ becomes x (link old a b) (link new a b)
 
 pub passed-start : {x : Bool} {old new : List ℕ} {n a at : ℕ} {out₀ : List ℕ} {rest : ℕ} → Clean n old → Clean n new
-    → at + length (spelled (rowActs x old new n a)) ≤ length out₀ → Changed x (getD old a 0) (getD new a 0) rest → Passed x old new n a at out₀ out₀ at rest
+    → at + length (bytesOf (rowActs x old new n a)) ≤ length out₀ → Changed x (getD old a 0) (getD new a 0) rest → Passed x old new n a at out₀ out₀ at rest
 unfolding rowActs link
 passed-start {x} {old} {new} {n} {a} p q h e = record {
   k = 0;
@@ -76,7 +76,7 @@ module _ {x : Bool} {old new : List ℕ} {n a at : ℕ} {out₀ out : List ℕ} 
     own = rw (sym (p .onward b k-le (p .inside b t)) ∙ T→≡ (bit rest b) t)
 
     pub passed-room : next + 3 ≤ length out
-    unfolding spelled
+    unfolding bytesOf
     passed-room = rw own at (wrote-room here (p .inside b t))
 
     pub passed-turn : {out₂ : List ℕ} {next₂ left : ℕ} → n ≤ 32 → left ≡ without rest b → Puts out out₂ next next₂ (sets x a b ∷ [])

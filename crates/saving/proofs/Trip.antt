@@ -2,7 +2,7 @@
 use mathlib.Core.Path.{_≡_, refl, sym, ap, _∙_}
 use mathlib.Core.Logic.{⊎-elim}
 use mathlib.Core.List.{List, [], _∷_, _++_}
-use Prim.Native.Nat.{ℕ, zero, suc, _+_, _*_, _≤_, _<_}
+use Prim.Native.Nat.{ℕ, zero, suc, _*_, _≤_, _<_}
 use native.Mathlib.Nat.{not-suc-le-zero, eq-or-lt-of-le, le-of-suc-le-suc, le-refl}
 use native.Mathlib.Numerals.{add-one}
 use native.Mathlib.Omega.{arith}
@@ -19,9 +19,9 @@ use Rattle.recording.specs.Format.{ended, readFile}
 use Rattle.recording.specs.Grammar.{Act, pick, isOpen, befores, Follow, Reads}
 use Rattle.recording.proofs.Grammar.{read-whole}
 use Rattle.recording.proofs.Laws.{read-law, picks-law}
-use Rattle.saving.specs.File.{each, changeActs, pickActs, linksAt, turnActs, fileActs, file}
-use Rattle.saving.specs.Order.{Left, InOrder}
-use Rattle.saving.proofs.Turns.{before-clean, pick-clean}
+use Rattle.saving.specs.File.{each, changeActs, pickActs, linksAt, actsAt, fileActs, file}
+use Rattle.saving.specs.Order.{Lasting, InOrder}
+use Rattle.saving.proofs.Lends.{before-clean, pick-clean}
 use Rattle.saving.proofs.Follows.{after, after-append, follow-append, befores-append}
 use Rattle.saving.proofs.Change.{change}
 use Rattle.saving.proofs.Order.{file-ordered, left-pick, change-left}
@@ -30,7 +30,7 @@ use Rattle.saving.proofs.Order.{file-ordered, left-pick, change-left}
 
 module _ (n : ℕ) (picks : List (List ℕ)) (r : Recording n picks) where
   abbrev acts : ℕ → List Act
-  acts k = each (turnActs n picks) k
+  acts k = each (actsAt n picks) k
 
   -- they may follow each other, the links of pick k are open then, and before each 50 those of its pick
   record Told (k : ℕ) : Type 0 where
@@ -39,19 +39,19 @@ module _ (n : ℕ) (picks : List (List ℕ)) (r : Recording n picks) where
     many : length (befores [] (acts k)) ≡ k
     each-pick : (j : ℕ) → j < k → (u v : ℕ) → isOpen (getD (befores [] (acts k)) j []) u v ≡ link (getD picks j []) u v
     -- and each link that was named for it is as it was set
-    left : (j : ℕ) → j < k → Left (getD (befores [] (acts k)) j []) (getD (befores [] (acts k)) j [])
+    lasting : (j : ℕ) → j < k → Lasting (getD (befores [] (acts k)) j []) (getD (befores [] (acts k)) j [])
     -- none is named for the next
-    fresh : (w : List Act) → Left w (after [] (acts k))
+    fresh : (w : List Act) → Lasting w (after [] (acts k))
 
   told-start : Told 0
-  unfolding each Follow isOpen befores Left
+  unfolding each Follow isOpen befores Lasting
   told-start =
       record {
         follow = tt;
         now = λ u v. sym (F→≡ (link (zeros n) u v) (zeros-none n u v));
         many = refl;
         each-pick = λ j h. absurd (not-suc-le-zero h);
-        left = λ j h. absurd (not-suc-le-zero h);
+        lasting = λ j h. absurd (not-suc-le-zero h);
         fresh = λ w. tt;
       }
 
@@ -67,7 +67,7 @@ module _ (n : ℕ) (picks : List (List ℕ)) (r : Recording n picks) where
     whole = after sofar made
 
     told-turn : Told (suc k)
-    unfolding each turnActs pickActs
+    unfolding each actsAt pickActs
     told-turn =
         let s = change n (linksAt n picks k) (linksAt n picks (suc k)) (before-clean n picks r k (omega arith)) (pick-clean n picks r k h) sofar (t .now) in
         let f : Follow n sofar (made ++ (pick ∷ [])) = follow-append n sofar made (pick ∷ []) (s .follow) (unfold Follow in tt) in
@@ -81,7 +81,7 @@ module _ (n : ℕ) (picks : List (List ℕ)) (r : Recording n picks) where
           now = λ u v. ap (λ (e : List Act). isOpen e u v) q ∙ (unfold isOpen in s .links u v);
           many = ap length b ∙ length-append (befores [] (acts k)) (whole ∷ []) ∙ rw (t .many) (add-one k);
           each-pick = λ j i. by b (λ e p. (u v : ℕ) → isOpen e u v ≡ link p u v) (s .links) (t .each-pick) j i;
-          left = λ j i. by b (λ e p. Left e e) (change-left n (linksAt n picks k) (linksAt n picks (suc k)) sofar (s .links) (t .fresh)) (t .left) j i;
+          lasting = λ j i. by b (λ e p. Lasting e e) (change-left n (linksAt n picks k) (linksAt n picks (suc k)) sofar (s .links) (t .fresh)) (t .lasting) j i;
           fresh = λ w. rw q (left-pick w whole);
         }
       where
@@ -151,4 +151,4 @@ unfolding file fileActs
 file-in-order n picks r =
     let t = told n picks r (length picks) (le-refl _) in
     let (o, l) = file-ordered n picks (length picks) in
-    record { acts = fileActs n picks; spelled = refl; ordered = o; left = λ k h. t .left k (omega (arith, t .many)); last = l }
+    record { acts = fileActs n picks; spelled = refl; ordered = o; follow = t .follow; lasting = λ k h. t .lasting k (omega (arith, t .many)); last = l }

@@ -43,11 +43,11 @@ abbrev pub linksAt : ℕ → List (List ℕ) → ℕ → List ℕ
 linksAt n picks p = getD (zeros n ∷ picks) p []
 
 -- the pick with k picks before it
-unfoldable pub turnActs : ℕ → List (List ℕ) → ℕ → List Act
-turnActs n picks k = pickActs n (linksAt n picks k) (linksAt n picks (suc k))
+unfoldable pub actsAt : ℕ → List (List ℕ) → ℕ → List Act
+actsAt n picks k = pickActs n (linksAt n picks k) (linksAt n picks (suc k))
 
 unfoldable pub fileActs : ℕ → List (List ℕ) → List Act
-fileActs n picks = each (turnActs n picks) (length picks)
+fileActs n picks = each (actsAt n picks) (length picks)
 
 -- 42 and n, the commands, 45
 unfoldable pub file : ℕ → List (List ℕ) → List ℕ

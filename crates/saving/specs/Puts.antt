@@ -10,14 +10,14 @@ use Rattle.recording.specs.Grammar.{Act, spell}
 use Rattle.saving.specs.File.{becomes}
 
 -- the bytes of commands, one after the other
-unfoldable pub spelled : List Act → List ℕ
-spelled [] = []
-spelled (x ∷ xs) = spell x ++ spelled xs
+unfoldable pub bytesOf : List Act → List ℕ
+bytesOf [] = []
+bytesOf (x ∷ xs) = spell x ++ bytesOf xs
 
 -- the bytes of the commands stand from `at` on, `behind` is the place behind them, and the other bytes are as they were
 pub record Puts (out after : List ℕ) (at behind : ℕ) (acts : List Act) : Type 0 where
-  pub place : behind ≡ at + length (spelled acts)
-  pub made : after ≡ splice at (length (spelled acts)) (spelled acts) out
+  pub ends : behind ≡ at + length (bytesOf acts)
+  pub made : after ≡ splice at (length (bytesOf acts)) (bytesOf acts) out
 
 -- the links of a word that was so, and is so now, that open (true) or shut (false)
 abbrev pub Changed : Bool → ℕ → ℕ → ℕ → Type 0

@@ -7,8 +7,8 @@ ghost use Rattle.model.specs.Recording.{Clean, Recording};
 ghost use Rattle.lists.specs.Tab.{splice};
 ghost use Rattle.checks.specs.Lent.{lentPicks};
 ghost use Rattle.recording.specs.Grammar.{code, sets};
-ghost use Rattle.saving.specs.File.{rowActs, tableActs, changeActs, pickActs, turnActs, file};
-ghost use Rattle.saving.specs.Puts.{spelled, Puts, Changed};
+ghost use Rattle.saving.specs.File.{rowActs, tableActs, changeActs, pickActs, actsAt, file};
+ghost use Rattle.saving.specs.Puts.{bytesOf, Puts, Changed};
 ghost use Rattle.saving.specs.Answers.{savingSays, saveSays, saveLeaves};
 use model::Board;
 use model::Refusal;
@@ -24,7 +24,7 @@ pub enum Saving {
 // The bytes of a pick: three for each link that is not as it was, and its 50.
 fn pick_size(old: &[u32], new: &[u32], n: usize) -> usize
     requires { ⌜ (n ≤ 32) × Clean n (now old) × Clean n (now new) ⌝ }
-    ensures { λ r. ⌜ (r ≡ length (spelled (pickActs n (now (old .entry)) (now (new .entry))))) × (r ≤ 3073) ⌝ }
+    ensures { λ r. ⌜ (r ≡ length (bytesOf (pickActs n (now (old .entry)) (now (new .entry))))) × (r ≤ 3073) ⌝ }
 {
     let mut links = 0u32;
     for a in 0..n {
@@ -34,9 +34,9 @@ fn pick_size(old: &[u32], new: &[u32], n: usize) -> usize
 }
 
 // The bytes of the pick with k picks before it. All links start shut.
-fn turn_size(words: &[u32], n: usize, m: usize, k: usize) -> usize
+fn size_at(words: &[u32], n: usize, m: usize, k: usize) -> usize
     requires { ⌜ (n ≤ 32) × (m ≤ 4096) × (k < m) × (m * n ≤ length (now words)) × Recording n (lentPicks n (now words) m) ⌝ }
-    ensures { λ r. ⌜ (r ≡ length (spelled (turnActs n (lentPicks n (now (words .entry)) m) k))) × (r ≤ 3073) ⌝ }
+    ensures { λ r. ⌜ (r ≡ length (bytesOf (actsAt n (lentPicks n (now (words .entry)) m) k))) × (r ≤ 3073) ⌝ }
 {
     let at = k * n;
     if k == 0 {
@@ -53,7 +53,7 @@ fn file_size(words: &[u32], n: usize, m: usize) -> usize
 {
     let mut size: usize = 3;
     for k in 0..m {
-        size += turn_size(words, n, m, k);
+        size += size_at(words, n, m, k);
     }
     size
 }
@@ -102,7 +102,7 @@ fn write_row(
     a: usize,
 ) -> usize
     requires { ⌜ (n ≤ 32) × (a < n) × Clean n (now old) × Clean n (now new)
-        × (at + length (spelled (rowActs opens (now old) (now new) n a)) ≤ length (now out)) ⌝ }
+        × (at + length (bytesOf (rowActs opens (now old) (now new) n a)) ≤ length (now out)) ⌝ }
     ensures { λ r. ⌜ Puts (now (out .entry)) (now (out .exit)) at r (rowActs opens (now (old .entry)) (now (new .entry)) n a) ⌝ }
 {
     let mut next = at;
@@ -118,7 +118,7 @@ fn write_row(
 // The commands of all links that open, or of all that shut, ascending by from and then to.
 fn write_table(out: &mut [u8], at: usize, opens: bool, old: &[u32], new: &[u32], n: usize) -> usize
     requires { ⌜ (n ≤ 32) × Clean n (now old) × Clean n (now new)
-        × (at + length (spelled (tableActs opens (now old) (now new) n)) ≤ length (now out)) ⌝ }
+        × (at + length (bytesOf (tableActs opens (now old) (now new) n)) ≤ length (now out)) ⌝ }
     ensures { λ r. ⌜ Puts (now (out .entry)) (now (out .exit)) at r (tableActs opens (now (old .entry)) (now (new .entry)) n) ⌝ }
 {
     let mut next = at;
@@ -130,7 +130,7 @@ fn write_table(out: &mut [u8], at: usize, opens: bool, old: &[u32], new: &[u32],
 
 // The links that shut, then those that open. Where no link changes, one pass over the words tells.
 fn write_changes(out: &mut [u8], at: usize, old: &[u32], new: &[u32], n: usize) -> usize
-    requires { ⌜ (n ≤ 32) × Clean n (now old) × Clean n (now new) × (at + length (spelled (changeActs n (now old) (now new))) ≤ length (now out)) ⌝ }
+    requires { ⌜ (n ≤ 32) × Clean n (now old) × Clean n (now new) × (at + length (bytesOf (changeActs n (now old) (now new))) ≤ length (now out)) ⌝ }
     ensures { λ r. ⌜ Puts (now (out .entry)) (now (out .exit)) at r (changeActs n (now (old .entry)) (now (new .entry))) ⌝ }
 {
     if links::is_same(old, new, n) {
@@ -142,7 +142,7 @@ fn write_changes(out: &mut [u8], at: usize, old: &[u32], new: &[u32], n: usize) 
 
 // The changes of a pick, and its 50.
 fn write_pick(out: &mut [u8], at: usize, old: &[u32], new: &[u32], n: usize) -> usize
-    requires { ⌜ (n ≤ 32) × Clean n (now old) × Clean n (now new) × (at + length (spelled (pickActs n (now old) (now new))) ≤ length (now out)) ⌝ }
+    requires { ⌜ (n ≤ 32) × Clean n (now old) × Clean n (now new) × (at + length (bytesOf (pickActs n (now old) (now new))) ≤ length (now out)) ⌝ }
     ensures { λ r. ⌜ Puts (now (out .entry)) (now (out .exit)) at r (pickActs n (now (old .entry)) (now (new .entry))) ⌝ }
 {
     let next = write_changes(out, at, old, new, n);
@@ -151,10 +151,10 @@ fn write_pick(out: &mut [u8], at: usize, old: &[u32], new: &[u32], n: usize) -> 
 }
 
 // The pick with k picks before it. All links start shut.
-fn write_turn(out: &mut [u8], at: usize, words: &[u32], n: usize, m: usize, k: usize) -> usize
+fn write_at(out: &mut [u8], at: usize, words: &[u32], n: usize, m: usize, k: usize) -> usize
     requires { ⌜ (n ≤ 32) × (m ≤ 4096) × (k < m) × (m * n ≤ length (now words)) × Recording n (lentPicks n (now words) m)
-        × (at + length (spelled (turnActs n (lentPicks n (now words) m) k)) ≤ length (now out)) ⌝ }
-    ensures { λ r. ⌜ Puts (now (out .entry)) (now (out .exit)) at r (turnActs n (lentPicks n (now (words .entry)) m) k) ⌝ }
+        × (at + length (bytesOf (actsAt n (lentPicks n (now words) m) k)) ≤ length (now out)) ⌝ }
+    ensures { λ r. ⌜ Puts (now (out .entry)) (now (out .exit)) at r (actsAt n (lentPicks n (now (words .entry)) m) k) ⌝ }
 {
     let from = k * n;
     if k == 0 {
@@ -175,7 +175,7 @@ fn write_file(out: &mut [u8], words: &[u32], n: usize, m: usize)
     out[1] = n as u8;
     let mut next: usize = 2;
     for k in 0..m {
-        next = write_turn(out, next, words, n, m, k);
+        next = write_at(out, next, words, n, m, k);
     }
     out[next] = 0x45;
 }

@@ -13,10 +13,10 @@ use Rattle.links.proofs.is_same.Statement.{statement}
 use Rattle.links.proofs.is_same.Tie as tie
 
 abbrev Inv-loop : tie.InvT-loop
-Inv-loop footprint t n bad₀ u₀ bad u = (u ≤ n) × (eqb bad 0 ≡ every (rowSame footprint t) u)
+Inv-loop left right n bad₀ u₀ bad u = (u ≤ n) × (eqb bad 0 ≡ every (rowSame left right) u)
 
 abbrev μ-loop : tie.MeasureT-loop
-μ-loop footprint t n bad₀ u₀ bad u = n - u
+μ-loop left right n bad₀ u₀ bad u = n - u
 
 loop-holds : tie.Need-loop-holds Inv-loop μ-loop
 loop-holds c = (search needs, sym (every-none _))

@@ -1,8 +1,8 @@
 -- `saving::save` meets its contract: the causes in their order; the size is known before the first byte is written.
 -- Assumes nothing.
 use mathlib.Core.Path.{_≡_, sym, ap, _∙_}
-use mathlib.Core.Bool.{Bool, true, false, not}
-use Prim.Native.Nat.{ℕ, _*_, _/_, _≤_}
+use mathlib.Core.Bool.{Bool, false, not}
+use Prim.Native.Nat.{_*_, _/_, _≤_}
 use native.Mathlib.Nat.{div-add-mod', le-refl}
 use native.Mathlib.Omega.{arith}
 use borrow.Author.Needs.{needs}
@@ -11,7 +11,8 @@ use lib.ListN.{length}
 use Rattle.model.specs.declared.Refusal.the-variants as cause
 use Rattle.model.proofs.Causes.{cause-next, cause-here, cause-none, between-says, holds-by}
 use Rattle.model.proofs.Logic.{tr}
-use Rattle.checks.specs.Lent.{cleanPicks}
+use Rattle.model.specs.Recording.{Recording}
+use Rattle.checks.specs.Lent.{lentPicks, cleanPicks}
 use Rattle.checks.proofs.Lent.{lent-recording}
 use Rattle.saving.specs.Answers.{lentFile, saveVerdict}
 use Rattle.saving.proofs.Causes.{refused-by, written-by}
@@ -25,6 +26,14 @@ so e f = ap not (sym e) ∙ f
 -- the picks lent lie within the words
 whole-words : (c : tie.Start) → length (c .args .words .now) / c .args .n * c .args .n ≤ length (c .args .words .now)
 whole-words c = omega (arith, div-add-mod' (length (c .args .words .now)) (c .args .n))
+
+-- picks that the check lets through are a recording
+recorded : (c : tie.Start) {x : Bool} → let n = c .args .n in let w = c .args .words .now in
+    x ≡ cleanPicks n w (length w / n) → not x ≡ false → Recording n (lentPicks n w (length w / n))
+recorded c e f =
+    let n = c .args .n in
+    let w = c .args .words .now in
+    lent-recording n w (length w / n) (whole-words c) (tr (sym (not-false (cleanPicks n w (length w / n)) (so e f))) tt) (length w / n) (le-refl _)
 
 returns : tie.Need-returns
 unfolding saveVerdict
@@ -82,15 +91,11 @@ file-size-requires c κs =
     let e3 = c .before .before in
     let e1 = e3 .before .before in
     let b = e1 .before in
-    let s = b .before .before .before in
-    let w = s .args .words .now in
-    let m = length w / s .args .n in
-    let r = whole-words s in
-    let t = not-false (cleanPicks (s .args .n) w m) (so (c .before .are-clean .ensures) (c .if4 .left)) in (
+    let s = b .before .before .before in (
       between-says _ _ _ (holds-by (b .is-between .ensures) (e1 .if1 .left)) .1,
       e3 .if3 .left,
-      r,
-      lent-recording (s .args .n) w m r (tr (sym t) tt) m (le-refl m),
+      whole-words s,
+      recorded s (c .before .are-clean .ensures) (c .if4 .left),
     )
 
 returns-5 : tie.Need-returns-5
@@ -115,15 +120,11 @@ write-file-requires c κs =
     let e3 = e4 .before .before in
     let e1 = e3 .before .before in
     let b = e1 .before in
-    let s = b .before .before .before in
-    let w = s .args .words .now in
-    let m = length w / s .args .n in
-    let r = whole-words s in
-    let t = not-false (cleanPicks (s .args .n) w m) (so (e4 .before .are-clean .ensures) (e4 .if4 .left)) in (
+    let s = b .before .before .before in (
       between-says _ _ _ (holds-by (b .is-between .ensures) (e1 .if1 .left)) .1,
       e3 .if3 .left,
-      r,
-      lent-recording (s .args .n) w m r (tr (sym t) tt) m (le-refl m),
+      whole-words s,
+      recorded s (e4 .before .are-clean .ensures) (e4 .if4 .left),
       rw (sym (f .file-size .ensures)) (e5 .if5 .left),
     )
 

@@ -6,26 +6,17 @@ use mathlib.Core.List.{List, [], _++_}
 use Prim.Native.Nat.{ℕ, _+_, _≤_}
 use native.Mathlib.Omega.{arith}
 use borrow.Author.Needs.{needs}
-use lib.Dec.{eqb→eq}
-use lib.ListN.{length, getD}
-use lib.Seq.{ext-getD}
-use Rattle.model.specs.Recording.{link, Words}
-use Rattle.lists.proofs.Tab.{every-out}
-use Rattle.links.specs.Tables.{rowSame, same}
+use lib.ListN.{length}
+use Rattle.model.specs.Recording.{link}
+use Rattle.model.proofs.Logic.{tr}
+use Rattle.links.proofs.Tells.{same-equal}
 use Rattle.recording.specs.Grammar.{Act}
 use Rattle.saving.specs.File.{becomes, linkActs, rowActs, tableActs, changeActs}
-use Rattle.saving.specs.Puts.{spelled}
+use Rattle.saving.specs.Puts.{bytesOf}
 use Rattle.saving.proofs.Acts.{each-none}
 use Rattle.saving.proofs.Put.{puts-none, puts-more, first-room, second-room}
 use Rattle.saving.proofs.write_changes.Statement.{statement}
 use Rattle.saving.proofs.write_changes.Tie as tie
-
--- words that are the same are equal
-equal : (n : ℕ) (old new : List ℕ) → Words n old → Words n new → same n old new ≡ true → new ≡ old
-unfolding same rowSame
-equal n old new p q e =
-    let z = q .size in
-    ext-getD 0 new old (z ∙ sym (p .size)) (λ u h. eqb→eq (getD new u 0) (getD old u 0) (every-out (rowSame old new) n (rw e tt) u (omega arith)))
 
 stays : (x y : Bool) → becomes x y y ≡ false
 stays true true = refl
@@ -43,14 +34,15 @@ unfolding changeActs
 returns c =
     let s = c .before .before .before .before .before in
     let a = s .args in
-    let e = equal (a .n) (a .old .now) (a .new .now) (s .pre .1 .words) (s .pre .2 .words) (sym (c .before .is-same .ensures) ∙ c .if1 .taken) in
+    let m = tr (sym (sym (c .before .is-same .ensures) ∙ c .if1 .taken)) tt in
+    let e = same-equal (a .n) (a .old .now) (a .new .now) (s .pre .1 .words) (s .pre .2 .words) m in
     puts-none (rw (e, none false (a .old .now) (a .n), none true (a .old .now) (a .n)))
 
 -- the commands of the links that shut, or open
 abbrev acts : tie.Start → Bool → List Act
 acts c x = tableActs x (c .args .old .now) (c .args .new .now) (c .args .n)
 
-room : (c : tie.Start) → c .args .at + length (spelled (acts c false ++ acts c true)) ≤ length (c .args .out .now)
+room : (c : tie.Start) → c .args .at + length (bytesOf (acts c false ++ acts c true)) ≤ length (c .args .out .now)
 unfolding changeActs
 room c = c .pre .3
 

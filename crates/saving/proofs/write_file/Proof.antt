@@ -9,21 +9,21 @@ use lib.ListN.{length, length-set}
 use Rattle.checks.specs.Lent.{lentPicks}
 use Rattle.checks.proofs.Lent.{length-lent}
 use Rattle.recording.specs.Grammar.{Act, spellFile}
-use Rattle.saving.specs.File.{each, turnActs, fileActs, file}
+use Rattle.saving.specs.File.{each, actsAt, fileActs, file}
 use Rattle.saving.proofs.Put.{Wrote, wrote-start, wrote-room, wrote-turn, wrote-all, file-room, head-long, last-long, last-room, file-put}
 use Rattle.saving.proofs.write_file.Statement.{statement}
 use Rattle.saving.proofs.write_file.Tie as tie
 
 -- the commands of m picks
 abbrev acts : ℕ → ℕ → List ℕ → List Act
-acts n m w = each (turnActs n (lentPicks n w m)) m
+acts n m w = each (actsAt n (lentPicks n w m)) m
 
 file-is : (n m : ℕ) (w : List ℕ) → file n (lentPicks n w m) ≡ spellFile n (acts n m w)
 unfolding file fileActs
 file-is n m w = rw (length-lent n w m)
 
 abbrev Inv-loop : tie.InvT-loop
-Inv-loop out₀ words n m next₀ k₀ out next k = Wrote (turnActs n (lentPicks n words m)) m 2 out₀ out next k
+Inv-loop out₀ words n m next₀ k₀ out next k = Wrote (actsAt n (lentPicks n words m)) m 2 out₀ out next k
 
 abbrev μ-loop : tie.MeasureT-loop
 μ-loop out₀ words n m next₀ k₀ out next k = m - k
@@ -50,8 +50,8 @@ loop-holds c =
     let l = file-room (a .n) (acts (a .n) (a .m) (a .words .now)) (a .out .now) (room s) in
     wrote-start (omega (arith, head-long (a .n) (acts (a .n) (a .m) (a .words .now)) (a .out .now) (room s)))
 
-write-turn-requires : tie.Need-write-turn-requires Inv-loop μ-loop
-write-turn-requires c κs =
+write-at-requires : tie.Need-write-at-requires Inv-loop μ-loop
+write-at-requires c κs =
     let c2 = c .before .before in
     let p = c2 .before .before .before .pre in
     let h = c .before .loop-test .taken in
@@ -60,7 +60,7 @@ write-turn-requires c κs =
 loop-again : tie.Need-loop-again Inv-loop μ-loop
 loop-again c =
     let c4 = c .before .before .before .before in
-    wrote-turn (c4 .before .loop .inv) (c4 .loop-test .taken) (c .before .before .write-turn .ensures)
+    wrote-turn (c4 .before .loop .inv) (c4 .loop-test .taken) (c .before .before .write-at .ensures)
 
 slice-write-out-3 : tie.Need-slice-write-out-3 Inv-loop μ-loop
 slice-write-out-3 c =
@@ -86,5 +86,5 @@ pub write-file-spec : {M : Type 1} → statement M
 write-file-spec =
     tie.close
     (tie.spec
-    Inv-loop μ-loop slice-write-out (search needs) slice-write-out-2 loop-holds write-turn-requires (search needs) (search needs) loop-again
+    Inv-loop μ-loop slice-write-out (search needs) slice-write-out-2 loop-holds write-at-requires (search needs) (search needs) loop-again
     slice-write-out-3 same-length returns)

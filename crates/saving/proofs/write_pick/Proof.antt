@@ -7,7 +7,7 @@ use borrow.Author.Needs.{needs}
 use lib.ListN.{length}
 use Rattle.recording.specs.Grammar.{Act, pick}
 use Rattle.saving.specs.File.{changeActs, pickActs}
-use Rattle.saving.specs.Puts.{spelled}
+use Rattle.saving.specs.Puts.{bytesOf}
 use Rattle.saving.proofs.Put.{puts-pick, puts-more, first-room, second-room}
 use Rattle.saving.proofs.write_pick.Statement.{statement}
 use Rattle.saving.proofs.write_pick.Tie as tie
@@ -16,7 +16,7 @@ use Rattle.saving.proofs.write_pick.Tie as tie
 abbrev acts : tie.Start → List Act
 acts c = changeActs (c .args .n) (c .args .old .now) (c .args .new .now)
 
-room : (c : tie.Start) → c .args .at + length (spelled (acts c ++ (pick ∷ []))) ≤ length (c .args .out .now)
+room : (c : tie.Start) → c .args .at + length (bytesOf (acts c ++ (pick ∷ []))) ≤ length (c .args .out .now)
 unfolding pickActs
 room c = c .pre .3
 
@@ -27,7 +27,7 @@ write-changes-requires c κs =
     (p .0, p .1, p .2, first-room (s .args .out .now) (s .args .at) (acts s) (pick ∷ []) (room s))
 
 slice-write-out : tie.Need-slice-write-out
-unfolding spelled
+unfolding bytesOf
 slice-write-out c =
     let s = c .before .before .before .before .before .before .before in
     let l = second-room (s .args .out .now) (s .args .at) (acts s) (pick ∷ []) (room s) (c .before .before .write-changes .ensures) in

@@ -1,6 +1,6 @@
 -- The parts that code lends for a pick and for the one before it. Assumes nothing.
 use mathlib.Core.Path.{_≡_, refl, sym, ap, _∙_}
-use mathlib.Core.List.{List, [], _∷_}
+use mathlib.Core.List.{List, []}
 use Prim.Native.Nat.{ℕ, zero, suc, _+_, _-_, _*_, _≤_, _<_}
 use native.Mathlib.Nat.{suc-mul, mul-le-mul}
 use native.Mathlib.Omega.{arith}
@@ -12,7 +12,7 @@ use Rattle.lists.proofs.Zeros.{lent}
 use Rattle.links.proofs.Bits.{zeros-clean}
 use Rattle.checks.specs.Lent.{lentPicks}
 use Rattle.saving.specs.File.{linksAt}
-use Rattle.links.proofs.Picks.{lent-end, lent-part, lent-long}
+use Rattle.links.proofs.Picks.{lent-end, lent-part}
 use Rattle.checks.proofs.Lent.{lent-at}
 
 -- neither has a forbidden bit
@@ -47,13 +47,6 @@ module _ (n m k : ℕ) (w : List ℕ) (h : k < m) where
           let g : suc j * n ≡ j * n + n = suc-mul j n in
           ap (λ (i : ℕ). take (suc j * n - i) (drop i w)) e ∙ ap (λ (i : ℕ). take (i - j * n) (drop (j * n) w)) g ∙ lent-part n j w
           ∙ sym (lent-at n w m j (omega arith))
-
-  pub last-room : m * n ≤ length w → (k ≡ 0 → ⊥) → n ≡ length (take (k * n - (k * n - n)) (drop (k * n - n) w))
-  last-room r z = rw (last-part z) (by k h z)
-    where
-      by : (k : ℕ) → k < m → (k ≡ 0 → ⊥) → n ≡ length (linksAt n (lentPicks n w m) k)
-      by zero h z = absurd (z refl)
-      by (suc j) h z = let l : j < m = omega arith in sym (ap length (lent-at n w m j l) ∙ lent-long n j m w r l)
 
   -- all links shut before the first
   pub none-part : (r : List ℕ) → r ≡ zeros 32 → n ≤ 32 → k ≡ 0 → take (n - 0) r ≡ linksAt n (lentPicks n w m) k

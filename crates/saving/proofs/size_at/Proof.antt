@@ -1,4 +1,4 @@
--- `saving::turn_size` meets its contract: the parts that it lends are the pick and the one before it, none before the first.
+-- `saving::size_at` meets its contract: the parts that it lends are the pick and the one before it, none before the first.
 -- Assumes nothing.
 use mathlib.Core.Path.{_∙_}
 use Prim.Native.Nat.{_+_, _*_, _≤_}
@@ -8,10 +8,10 @@ use borrow.Author.Needs.{needs}
 use Rattle.links.proofs.Picks.{lent-end}
 use Rattle.checks.specs.Lent.{lentPicks}
 use Rattle.checks.proofs.Lent.{length-lent}
-use Rattle.saving.specs.File.{turnActs}
-use Rattle.saving.proofs.Turns.{before-clean, pick-clean, few-words, one-behind, this-part, last-part, none-part}
-use Rattle.saving.proofs.turn_size.Statement.{statement}
-use Rattle.saving.proofs.turn_size.Tie as tie
+use Rattle.saving.specs.File.{actsAt}
+use Rattle.saving.proofs.Lends.{before-clean, pick-clean, few-words, one-behind, this-part, last-part, none-part}
+use Rattle.saving.proofs.size_at.Statement.{statement}
+use Rattle.saving.proofs.size_at.Tie as tie
 
 -- the pick's words are few enough to be counted, and are lent
 few : (c : tie.Start) → c .args .k * c .args .n + c .args .n ≤ 131072
@@ -46,7 +46,7 @@ pick-size-requires c κs =
     (p .0, rw b (before-clean (a .n) ps (p .4) (a .k) (omega arith)), rw t (pick-clean (a .n) ps (p .4) (a .k) (omega arith)))
 
 returns : tie.Need-returns
-unfolding turnActs
+unfolding actsAt
 returns c =
     let d = c .before .before .before .before in
     let s = d .before .before .before in
@@ -90,7 +90,7 @@ pick-size-requires-2 c κs =
     (p .0, rw b (before-clean (a .n) ps (p .4) (a .k) (omega arith)), rw t (pick-clean (a .n) ps (p .4) (a .k) (omega arith)))
 
 returns-2 : tie.Need-returns-2
-unfolding turnActs
+unfolding actsAt
 returns-2 c =
     let d = c .before .before .before in
     let s = d .before .before in
@@ -102,8 +102,8 @@ returns-2 c =
     let e = c .pick-size2 .ensures in
     (e .0 ∙ rw (b, t), e .1)
 
-pub turn-size-spec : {M : Type 1} → statement M
-turn-size-spec =
+pub size-at-spec : {M : Type 1} → statement M
+size-at-spec =
     tie.close
     (tie.spec
     mul-at (search needs) (search needs) (search needs) (search needs) add-pick-size mul-pick-size (search needs) (search needs)

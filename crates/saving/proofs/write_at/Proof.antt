@@ -1,4 +1,4 @@
--- `saving::write_turn` meets its contract: the parts that it lends are the pick and the one before it, none before the first.
+-- `saving::write_at` meets its contract: the parts that it lends are the pick and the one before it, none before the first.
 -- Assumes nothing.
 use mathlib.Core.Path.{_≡_}
 use mathlib.Core.List.{List}
@@ -10,11 +10,11 @@ use Rattle.model.specs.Recording.{Clean}
 use Rattle.links.proofs.Picks.{lent-end}
 use Rattle.checks.specs.Lent.{lentPicks}
 use Rattle.checks.proofs.Lent.{length-lent}
-use Rattle.saving.specs.File.{pickActs, linksAt, turnActs}
-use Rattle.saving.specs.Puts.{spelled, Puts}
-use Rattle.saving.proofs.Turns.{before-clean, pick-clean, few-words, one-behind, this-part, last-part, none-part}
-use Rattle.saving.proofs.write_turn.Statement.{statement}
-use Rattle.saving.proofs.write_turn.Tie as tie
+use Rattle.saving.specs.File.{pickActs, linksAt, actsAt}
+use Rattle.saving.specs.Puts.{bytesOf, Puts}
+use Rattle.saving.proofs.Lends.{before-clean, pick-clean, few-words, one-behind, this-part, last-part, none-part}
+use Rattle.saving.proofs.write_at.Statement.{statement}
+use Rattle.saving.proofs.write_at.Tie as tie
 
 few : (c : tie.Start) → c .args .k * c .args .n + c .args .n ≤ 131072
 few c = let p = c .pre in few-words (c .args .n) (c .args .m) (c .args .k) (p .0) (p .1) (p .2)
@@ -32,8 +32,8 @@ picks c = lentPicks (c .args .n) (c .args .words .now) (c .args .m)
 -- what `write_pick` requires where it is lent the links before, and what it then ensures
 requires : (c : tie.Start) {old : List ℕ} → old ≡ linksAt (c .args .n) (picks c) (c .args .k)
     → (c .args .n ≤ 32) × Clean (c .args .n) old × Clean (c .args .n) (this c)
-    × (c .args .at + length (spelled (pickActs (c .args .n) old (this c))) ≤ length (c .args .out .now))
-unfolding turnActs
+    × (c .args .at + length (bytesOf (pickActs (c .args .n) old (this c))) ≤ length (c .args .out .now))
+unfolding actsAt
 requires c e =
     let a = c .args in
     let p = c .pre in
@@ -47,8 +47,8 @@ requires c e =
 
 puts : (c : tie.Start) {old after : List ℕ} {behind : ℕ} → old ≡ linksAt (c .args .n) (picks c) (c .args .k)
     → Puts (c .args .out .now) after (c .args .at) behind (pickActs (c .args .n) old (this c))
-    → Puts (c .args .out .now) after (c .args .at) behind (turnActs (c .args .n) (picks c) (c .args .k))
-unfolding turnActs
+    → Puts (c .args .out .now) after (c .args .at) behind (actsAt (c .args .n) (picks c) (c .args .k))
+unfolding actsAt
 puts c e d = let a = c .args in rw (e, this-part (a .n) (a .m) (a .k) (a .words .now) (c .pre .2)) at d
 
 mul-from : tie.Need-mul-from
@@ -110,8 +110,8 @@ returns-2 c =
     let a = s .args in
     puts s (last-part (a .n) (a .m) (a .k) (a .words .now) (s .pre .2) (c6 .if1 .left)) (c .before .before .write-pick2 .ensures)
 
-pub write-turn-spec : {M : Type 1} → statement M
-write-turn-spec =
+pub write-at-spec : {M : Type 1} → statement M
+write-at-spec =
     tie.close
     (tie.spec
     mul-from (search needs) (search needs) (search needs) (search needs) add-write-pick mul-write-pick (search needs) (search needs)
