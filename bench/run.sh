@@ -39,13 +39,14 @@ while read -r measure kind mode ours theirs ratio; do
 done <target/bench/times
 
 echo
-echo "| Saved | Bytes a pick | ns a pick, archive | ns, Rust | Ratio of time, median | Instructions a pick, archive | Instructions, Rust | Ratio of instructions |"
+echo "| Saved | Bytes a pick | ns a pick, archive | ns, Rust | Ratio of time, median | Instructions a pick, archive | Rust | Ratio of instructions |"
 echo "|---|---|---|---|---|---|---|---|"
 "$speed" saves >target/bench/saves
 while read -r kind ours theirs ratio bytes; do
     a=($(instructions archive 0 "$kind" save))
     b=($(instructions rust 0 "$kind" save))
-    echo "| $kind | $bytes | $ours | $theirs | $ratio | ${a[0]} | ${b[0]} | $(awk "BEGIN { printf \"%.2f\", ${a[0]} / ${b[0]} }") |"
+    of=$(awk "BEGIN { printf \"%.2f\", ${a[0]} / ${b[0]} }")
+    echo "| $kind | $bytes | $ours | $theirs | $ratio | ${a[0]} | ${b[0]} | $of |"
 done <target/bench/saves
 
 echo
