@@ -1,1 +1,3 @@
 // No code: the conditions of the tender, stated once, to be read (specs/).
+#![tactic(auto)]
+

@@ -1,6 +1,8 @@
 // Parts of a lent area: part i, of E words, begins at word (i - 1) × E, for i from 1 on. Each function but `zero_first` changes one part at most. A part is
 // found by E and its table lent by the table's own size, which is as large today.
 // The later table that a composition reads is copied first: a part that is written and one that is read cannot be lent at the same time.
+#![tactic(auto)]
+
 ghost use Rattle.std.specs.Prelude.{◌≡◌, ◌≢◌, ◌-◌, ◌*◌, ◌^◌, ◌≤◌, ◌<◌, length, take, drop};
 ghost use Rattle.lists.specs.Tab.{splice};
 ghost use Rattle.measures.specs.Kit.{hops01, kit, size_of, own_of, join_of, pass_of};

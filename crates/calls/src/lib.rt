@@ -1,4 +1,6 @@
 // The calls of the walk: opening, pick, length, whole run. None of the four requires anything; `whole_start` and `zero_needed`, which `decision` uses too, do.
+#![tactic(auto)]
+
 ghost use Rattle.std.specs.Prelude.{◌≡◌, ◌≢◌, ◌-◌, ◌*◌, ◌≤◌, length};
 ghost use Rattle.area.specs.Parts.{zeroed};
 ghost use Rattle.place.specs.Places.{charged};
@@ -17,28 +19,28 @@ use steps::Mode;
 use verdicts::Verdict;
 
 // Opening answers the place, or a cause with the place of zeros and noes.
-#[derive(Drop)]
+#[derive(Clone, Copy)]
 pub enum Opening {
     Opened(Place),
     NotOpened(Place, Refusal),
 }
 
 // A pick taken answers yes with the place, or a cause with the place as it was.
-#[derive(Drop)]
+#[derive(Clone, Copy)]
 pub enum Taking {
     Taken(Place),
     NotTaken(Place, Refusal),
 }
 
 // A length with its two counts, or a cause: with the counts where no length exists, with counts 0 otherwise.
-#[derive(Drop)]
+#[derive(Clone, Copy)]
 pub enum Answer {
     Length(usize, Compositions, Tests),
     Refused(Refusal, Compositions, Tests),
 }
 
 // The length call hands the place back beside its answer.
-#[derive(Drop)]
+#[derive(Clone, Copy)]
 pub struct Measured {
     pub place: Place,
     pub answer: Answer,

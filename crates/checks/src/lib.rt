@@ -1,4 +1,6 @@
 // Checks of a pick or a footprint: forbidden bits, and links outside the footprint.
+#![tactic(auto)]
+
 ghost use Rattle.std.specs.Prelude.{◌≡◌, ◌*◌, ◌≤◌, length};
 ghost use Rattle.lists.specs.Tab.{zeros, splice};
 ghost use Rattle.checks.specs.Checks.{allowed, clean, listed, all_open};

@@ -1,9 +1,11 @@
 // Lines of numbers and dashes in columns, written into a buffer. The contracts say which bytes.
+#![tactic(auto)]
+
 ghost use Rattle.std.specs.Prelude.{◌++◌, ◌∷◌, [], ◌+◌, ◌≤◌, ◌<◌, length};
 ghost use Rattle.columns.specs.Text.{decimal_of, cell_text, line5, Put};
 
 // What a column holds: a number, a dash where there is none, or the word `file`.
-#[derive(Drop)]
+#[derive(Clone, Copy)]
 pub enum Cell {
     Number(usize),
     Dash,

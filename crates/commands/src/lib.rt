@@ -1,4 +1,6 @@
 // The commands of a recording file: each is taken apart, and checked against n, the limit, the picks so far and the open links.
+#![tactic(auto)]
+
 ghost use Rattle.std.specs.Prelude.{◌≡◌, ◌≤◌, ◌<◌, length, get_or};
 ghost use Rattle.model.specs.Recording.{link};
 ghost use Rattle.commands.specs.Commands.{arity_of, misplaced, command_of, command_at};
@@ -7,7 +9,7 @@ ghost use Rattle.commands.specs.Causes.{no_link, unchanged, head_at, next as nex
 use model::{Board, Refusal};
 
 // What may stand after the 42 and its n. A link opens (true) or shuts (false).
-#[derive(Drop)]
+#[derive(Clone, Copy)]
 pub enum Item {
     Link(Board, Board, bool),
     Pick,
@@ -15,7 +17,7 @@ pub enum Item {
 }
 
 // A command taken apart, or why it is refused.
-#[derive(Drop)]
+#[derive(Clone, Copy)]
 pub enum Command {
     Boards(usize),
     Later(Item),
@@ -25,7 +27,7 @@ pub enum Command {
 // ---- a command taken apart
 
 // A command byte and how many operand bytes follow it.
-#[derive(Drop)]
+#[derive(Clone, Copy)]
 pub struct Shape {
     pub byte: u8,
     pub operands: u8,
@@ -54,7 +56,7 @@ const COMMANDS: [Shape; 5] = [
     },
 ];
 
-#[derive(Drop)]
+#[derive(Clone, Copy)]
 pub enum Arity {
     Known(u8),
     Unknown,

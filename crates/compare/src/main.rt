@@ -1,6 +1,8 @@
 // Runs the calls on many cases and compares them with the second implementation: a line for each group, with its cases and its
 // mismatches, and before it a line for each mismatch. A case that is a file is named in `args` and stands in data/: a new one
 // asks for no code and no proof.
+#![tactic(auto)]
+
 use compare_tallies::{Call, Group, Kind, Tally};
 use libc::STDOUT_FILENO;
 

@@ -1,4 +1,6 @@
 // Outputs of bytes, for the cases that save a recording.
+#![tactic(auto)]
+
 ghost use Rattle.std.specs.Prelude.{◌≡◌, length};
 
 // Room for the file of every case: nine picks over 32 boards have at most 26,796 bytes, and no generated recording is larger.

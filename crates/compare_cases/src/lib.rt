@@ -1,4 +1,6 @@
 // Words of recordings: stored and looked at within bounds, copied, and drawn by a generator. Places, field by field.
+#![tactic(auto)]
+
 ghost use Rattle.std.specs.Prelude.{◌≤◌, ◌<◌};
 
 use place::{Counts, Place, Settings, TestMarks, Window};

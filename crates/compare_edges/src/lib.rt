@@ -1,4 +1,6 @@
 // Runs the rows of `compare_rows`. Wherever a call refuses, every lent word must stay.
+#![tactic(auto)]
+
 use calls::Opening;
 use compare_rows::Edge;
 use compare_tallies::{Call, Group, Outcome, Tally};

@@ -1,4 +1,6 @@
 // The cases that are files: each argument names one, as `compare_listed` reads it.
+#![tactic(auto)]
+
 use compare_tallies::{Case, Group, Outcome, Tally};
 use recording::Reading;
 
@@ -6,7 +8,7 @@ use recording::Reading;
 const LIMIT: usize = 40;
 
 // A case with the boards and the picks of its file, and how that was read.
-#[derive(Drop)]
+#[derive(Clone, Copy)]
 struct Loaded {
     case: Case,
     read: Outcome,

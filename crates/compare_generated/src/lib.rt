@@ -1,4 +1,6 @@
 // Generated recordings: one of 5 to 9 picks for each number of boards, 2 to 32, and each share of links.
+#![tactic(auto)]
+
 use compare_tallies::{Case, Group, Kind, Tally};
 
 // 31 numbers of boards times 4 shares.
@@ -11,7 +13,7 @@ const WORDS: usize = 288;
 const SEED: u32 = 2463534242;
 
 // A tally, and the generator's state behind it.
-#[derive(Drop)]
+#[derive(Clone, Copy)]
 struct Drawn {
     tally: Tally,
     state: u32,

@@ -1,10 +1,12 @@
 // A case as one word, its fields parted by colons. A file and the number of its refusal, 0 where it is read:
 // `no-end.loom:12`. Or a file, a measure, and what a whole run answers, length, refusal, compositions, tests:
 // `A.loom:1:-:9:0:1`.
+#![tactic(auto)]
+
 ghost use Rattle.std.specs.Prelude.{◌≤◌, length};
 
 // How many colons were met, and the number in the field that is looked for.
-#[derive(Drop)]
+#[derive(Clone, Copy)]
 struct Seen {
     colons: usize,
     number: usize,

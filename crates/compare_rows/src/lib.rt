@@ -1,11 +1,13 @@
 // Tables of edges: inputs of the calls, each with the refusal of it, 0 where there is none. Where two causes meet in a row, the
 // refusal is the first of them in 01's order.
+#![tactic(auto)]
+
 use compare_tallies::Call;
 use model::{Compositions, Pick, Tests};
 use place::{Counts, Place, Settings, TestMarks, Window};
 
 // Eight numbers, of which each table says what they are; 0 where it has no use for one. A word is at 5, the refusal at 7.
-#[derive(Drop)]
+#[derive(Clone, Copy)]
 pub struct Edge(
     pub usize,
     pub usize,

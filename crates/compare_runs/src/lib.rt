@@ -1,4 +1,6 @@
 // The recording of a case, run by the calls and compared with the second implementation.
+#![tactic(auto)]
+
 ghost use Rattle.std.specs.Prelude.{◌≤◌, ◌<◌};
 ghost use Rattle.compare_tallies.specs.Held.{Sized, Held};
 

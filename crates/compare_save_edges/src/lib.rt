@@ -1,5 +1,7 @@
 // Edges of saving: inputs of the call, each with the refusal of it, 0 where there is none. A file must be that of the second implementation, with every
 // byte behind it left; where the call refuses, every byte must stay.
+#![tactic(auto)]
+
 use compare_rows::Edge;
 use compare_tallies::{Group, MOST_BOARDS, MOST_PICKS, Outcome, Tally};
 

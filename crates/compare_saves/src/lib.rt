@@ -1,4 +1,6 @@
 // The recording of a case, saved as a file, against the file of the second implementation; then read back, and saved again.
+#![tactic(auto)]
+
 ghost use Rattle.std.specs.Prelude.{◌≤◌};
 ghost use Rattle.compare_tallies.specs.Held.{Sized, Held};
 

@@ -1,4 +1,6 @@
 // Groups of cases counted, and a line for each mismatch. Whatever a call answers is four numbers here, so that all are compared alike.
+#![tactic(auto)]
+
 use calls::Answer;
 use decision::Decision;
 use libc::STDOUT_FILENO;
@@ -12,7 +14,7 @@ pub const MOST_PICKS: usize = 4096;
 // ---- groups
 
 // What of a recording is held against the second implementation.
-#[derive(Drop)]
+#[derive(Clone, Copy)]
 pub enum Kind {
     Whole,
     Picks,
@@ -23,7 +25,7 @@ pub enum Kind {
 }
 
 // What a table of edges is for.
-#[derive(Drop)]
+#[derive(Clone, Copy)]
 pub enum Call {
     Whole,
     Decide,
@@ -35,7 +37,7 @@ pub enum Call {
 }
 
 // A group is a line of the output, or one for each measure.
-#[derive(Drop)]
+#[derive(Clone, Copy)]
 pub enum Group {
     ByHand(Kind),
     Stated,
@@ -47,7 +49,7 @@ pub enum Group {
     SaveEdges,
 }
 
-#[derive(Drop)]
+#[derive(Clone, Copy)]
 pub struct Tally {
     pub group: Group,
     pub cases: u32,
@@ -64,7 +66,7 @@ pub fn no_cases(group: Group) -> Tally {
 
 // Which case of a group: its number from 1 on, its measure, the boards and picks of its recording, and the pick, the row or the step that is looked at.
 // 0 is none.
-#[derive(Drop)]
+#[derive(Clone, Copy)]
 pub struct Case {
     pub number: usize,
     pub measure: usize,
@@ -90,7 +92,7 @@ pub fn at_part(case: Case, part: usize) -> Case {
 // ---- outcomes
 
 // A length, a word of a table, the size of a file, or 1 for yes; the refusal, and the counts. 0 is none, and no.
-#[derive(Drop)]
+#[derive(Clone, Copy)]
 pub struct Outcome {
     pub value: usize,
     pub refusal: usize,

@@ -1,5 +1,7 @@
 // Runs the rows of `compare_rows` for the calls that are handed a place, and the limit of 4,096 picks. A refused pick must hand the
 // place back as it was and leave every word of the area.
+#![tactic(auto)]
+
 ghost use Rattle.std.specs.Prelude.{◌≤◌};
 
 use calls::Taking;

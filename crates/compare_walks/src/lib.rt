@@ -1,4 +1,6 @@
 // The recording of a case, pick by pick: after each one the length and both counts, against the second implementation.
+#![tactic(auto)]
+
 ghost use Rattle.std.specs.Prelude.{◌≤◌};
 ghost use Rattle.compare_tallies.specs.Held.{Sized, Held};
 ghost use Rattle.naive_walk.specs.Ranges.{BehindPick};

@@ -1,4 +1,6 @@
 // Places and answers as words of 32 bits, as C has them.
+#![tactic(auto)]
+
 ghost use Rattle.std.specs.Prelude.{◌≡◌, ◌<◌, ◌^◌};
 ghost use Rattle.model.specs.Journey.{val};
 ghost use Rattle.model.specs.Refusals.{number};
@@ -16,7 +18,7 @@ use saving::Saving;
 
 // The place as ten words. A flag is 0 for no and 1 for yes.
 #[repr(C)]
-#[derive(Drop)]
+#[derive(Clone, Copy)]
 pub struct PlaceWords {
     pub boards: u32,
     pub measure: u32,
@@ -32,7 +34,7 @@ pub struct PlaceWords {
 
 // What opening and a pick answer: refusal 0 is none.
 #[repr(C)]
-#[derive(Drop)]
+#[derive(Clone, Copy)]
 pub struct HandedWords {
     pub refusal: u32,
     pub place: PlaceWords,
@@ -40,7 +42,7 @@ pub struct HandedWords {
 
 // What a whole run answers: length 0 is none.
 #[repr(C)]
-#[derive(Drop)]
+#[derive(Clone, Copy)]
 pub struct AnswerWords {
     pub refusal: u32,
     pub length: u32,
@@ -50,7 +52,7 @@ pub struct AnswerWords {
 
 // What the length call answers, with the place as it was.
 #[repr(C)]
-#[derive(Drop)]
+#[derive(Clone, Copy)]
 pub struct MeasuredWords {
     pub refusal: u32,
     pub length: u32,
@@ -61,7 +63,7 @@ pub struct MeasuredWords {
 
 // What a decision answers: yes is 1 where every window passes, else 0.
 #[repr(C)]
-#[derive(Drop)]
+#[derive(Clone, Copy)]
 pub struct DecisionWords {
     pub refusal: u32,
     pub yes: u32,
@@ -71,7 +73,7 @@ pub struct DecisionWords {
 
 // What the reader answers: boards and picks 0 where the file is refused.
 #[repr(C)]
-#[derive(Drop)]
+#[derive(Clone, Copy)]
 pub struct ReadingWords {
     pub refusal: u32,
     pub boards: u32,
@@ -80,7 +82,7 @@ pub struct ReadingWords {
 
 // What the writer answers: length 0 where nothing was written.
 #[repr(C)]
-#[derive(Drop)]
+#[derive(Clone, Copy)]
 pub struct SavedWords {
     pub refusal: u32,
     pub length: u32,

@@ -1,5 +1,7 @@
 // Whether every window of k picks of a recording passes: the decision problem of source document 002 (its definition 3). The call, `decide`, requires
 // nothing.
+#![tactic(auto)]
+
 ghost use Rattle.std.specs.Prelude.{◌≡◌, ◌≢◌, ◌≤◌, length};
 ghost use Rattle.area.specs.Parts.{zeroed};
 ghost use Rattle.verdicts.specs.Verdicts.{needed, verdict_says};
@@ -15,7 +17,7 @@ use steps::Mode;
 use verdicts::Verdict;
 
 // Yes or no, each with its two counts, or a cause.
-#[derive(Drop)]
+#[derive(Clone, Copy)]
 pub enum Decision {
     Yes(Compositions, Tests),
     No(Compositions, Tests),

@@ -1,6 +1,8 @@
 // The composition of tables of times. A table is crossed with a later one row by row: what row u takes from the later table depends only on
 // which boards u reaches, so rows with the same set of boards share one fold over the later table. Latest departures are the same, with
 // rows and columns exchanged and the two parts too. The composition is written over the earlier part.
+#![tactic(auto)]
+
 ghost use Rattle.std.specs.Prelude.{◌≡◌, ◌+◌, ◌*◌, ◌^◌, ◌<◌, ◌≤◌, true, false, length, slice_index};
 ghost use Rattle.lists.specs.Tab.{tab, zeros, splice};
 ghost use Rattle.times.specs.Times.{cell, rows, times_words, sooner, later, departures, compose_times};

@@ -1,5 +1,7 @@
 // The pairs of boards that are joined: over two parts of a recording, by the composition of measure 3, and within one pick, its own table. A table
 // is that of `links`: n words, 2 to 32, bit v of word u for the pair u, v. Words are taken as they are found.
+#![tactic(auto)]
+
 ghost use Rattle.std.specs.Prelude.{◌≡◌, [], ◌+◌, ◌/◌, ◌%◌, ◌^◌, ◌≤◌, ◌<◌, length, get_or};
 ghost use Rattle.model.specs.Journey.{most_links};
 ghost use Rattle.lists.specs.Tab.{tab, zeros, splice, every};

@@ -1,4 +1,6 @@
 // Reads one recording file from standard input, up to 16,384 bytes, and prints its length under each measure.
+#![tactic(auto)]
+
 use libc::STDOUT_FILENO;
 
 fn main() {

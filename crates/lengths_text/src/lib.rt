@@ -1,4 +1,6 @@
 // What `lengths` prints for a recording file: the lengths under each measure, as lines of text. `text_of` in specs/ says every byte.
+#![tactic(auto)]
+
 ghost use Rattle.std.specs.Prelude.{◌≡◌, ◌+◌, ◌*◌, ◌≤◌, length, take, drop};
 ghost use Rattle.lists.specs.Tab.{zeros};
 ghost use Rattle.calls.specs.Answers.{answer_says};

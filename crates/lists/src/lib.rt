@@ -1,4 +1,6 @@
 // Words selected, or-ed, copied and set to zero.
+#![tactic(auto)]
+
 ghost use Rattle.std.specs.Prelude.{◌≡◌, ◌≤◌, length, get_or, eqb};
 ghost use Rattle.lists.specs.Tab.{kept, any_of, zeros, splice};
 

@@ -1,5 +1,7 @@
 // What the walk needs of each measure: the words of a table, a pick's own table, the composition where it goes word by word, the test of a table. The
 // compositions of measures 3 and 4 are those of `joins` and `folds`.
+#![tactic(auto)]
+
 ghost use Rattle.std.specs.Prelude.{◌≡◌, ◌≢◌, ◌^◌, ◌≤◌, ◌<◌, length};
 ghost use Rattle.links.specs.Tables.{within};
 ghost use Rattle.times.specs.Times.{times_words, own_times};

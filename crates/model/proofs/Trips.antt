@@ -245,9 +245,9 @@ pub journey_to : (n : ℕ) (L : Limit) (r : List (List ℕ)) → Recording n r �
 journey_to n L r k i j u v a b c hu f = trip_to n L (window r i j) (rec_window n i j r k) u v hu ((journey_trip r L i j u v a b c).0 f)
 
 -- a journey in a window is one in any window around it
-widen : {r : List (List ℕ)} {i j a b u v : ℕ} {ts : List ℕ} → a ≤ i → j ≤ b → Crosses r j i u v ts → Crosses r b a u v ts
+widen : {r : List (List ℕ)} {j b a i u v : ℕ} {ts : List ℕ} → a ≤ i → j ≤ b → Crosses r j i u v ts → Crosses r b a u v ts
 widen x y stay = stay
-widen {i = i} {j} {a} {b} x y (cross {t = t} p q l s) = cross {i = a} {t = t} (omega arith) (omega arith) l (widen (le_refl t) y s)
+widen {j = j} {b} {a} {i} x y (cross {t = t} p q l s) = cross {i = a} {t = t} (omega arith) (omega arith) l (widen (le_refl t) y s)
 
 pub journey_wider : {r : List (List ℕ)} {L : Limit} {i j a b u v : ℕ} → a ≤ i → j ≤ b → Journey r L i j u v → Journey r L a b u v
 journey_wider x y f = record { picks = f.picks; crosses = widen x y f.crosses; hops = f.hops }

@@ -1,26 +1,28 @@
 // Units. A pick number is never used as a board number, and compositions and tests are counted apart.
+#![tactic(auto)]
+
 ghost use Rattle.std.specs.Prelude.{◌≡◌};
 ghost use Rattle.model.specs.Causes.{between};
 ghost use Rattle.model.specs.Refusals.{number};
 
 // A board's number, from 0 on.
-#[derive(Drop)]
+#[derive(Clone, Copy)]
 pub struct Board(pub usize);
 
 // A pick's number, from 1 on; 0 stands for none.
-#[derive(Drop)]
+#[derive(Clone, Copy)]
 pub struct Pick(pub usize);
 
 // How many compositions were made.
-#[derive(Drop)]
+#[derive(Clone, Copy)]
 pub struct Compositions(pub usize);
 
 // How many tests were made.
-#[derive(Drop)]
+#[derive(Clone, Copy)]
 pub struct Tests(pub usize);
 
 // The causes of 01, and of the requests after it, in the order of their numbers, 1 to 18; `number` in specs/Refusals.antt gives each its number.
-#[derive(Drop)]
+#[derive(Clone, Copy)]
 pub enum Refusal {
     // n not 2 to 32
     Boards,

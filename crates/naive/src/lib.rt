@@ -1,5 +1,7 @@
 // A second implementation, by the bare definitions over all windows. It shares no code with the walk, and is slow.
 // A recording is n words a pick. Picks are counted from 0 here, and the window a, e has the picks a to e - 1.
+#![tactic(auto)]
+
 ghost use Rattle.std.specs.Prelude.{◌≤◌, ◌<◌};
 
 // Board u's word of pick p; 0 where the recording has none.

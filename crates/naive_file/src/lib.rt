@@ -1,5 +1,7 @@
 // The recording file by a second implementation: bare loops over every pick and every pair of boards. It shares no code with `saving`.
 // A recording is n words a pick. Picks are numbered from 1 here; at pick 0, before the first, no link is open.
+#![tactic(auto)]
+
 ghost use Rattle.std.specs.Prelude.{◌<◌, ◌≤◌};
 
 const OPENS: u8 = 0x4F;

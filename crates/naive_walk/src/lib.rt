@@ -1,11 +1,13 @@
 // The counts by the second implementation: the walk of 01 on numbers and marks alone, sentence by sentence, with no table and no area. It shares no code
 // with the walk of the calls. A recording is `picks` picks of n words each; a test is answered by `naive` over the bare window.
+#![tactic(auto)]
+
 ghost use Rattle.std.specs.Prelude.{◌≡◌, ◌+◌, ◌*◌, ◌≤◌, ◌<◌};
 ghost use Rattle.naive_walk.specs.Ranges.{most_per_rise, most_per_pick, most_spent, one, BehindPick, InPick, Spends};
 
 // "picks taken m, window start s (first 1), boundary b (first 0), whether any test has failed (first no), whether the last test passed (first no) and the
 // two counts". Picks are numbered from 1.
-#[derive(Drop)]
+#[derive(Clone, Copy)]
 pub struct Numbers {
     pub m: usize,
     pub s: usize,

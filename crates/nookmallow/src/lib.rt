@@ -1,4 +1,6 @@
 // The C boundary: each function hands one call to C and answers what that call answers, as words of 32 bits. None requires anything.
+#![tactic(auto)]
+
 ghost use Rattle.std.specs.Prelude.{◌≡◌};
 ghost use Rattle.calls.specs.Calls.{open_says, open_leaves, whole_says, whole_leaves};
 ghost use Rattle.reach.specs.Tables.{table_verdict, table_leaves};

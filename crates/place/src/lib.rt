@@ -1,11 +1,13 @@
 // The place of a walk: the record that every call is handed and hands back, the steps it takes, and cause 16.
+#![tactic(auto)]
+
 ghost use Rattle.std.specs.Prelude.{◌≡◌, ◌≤◌};
 ghost use Rattle.place.specs.Places.{fresh, most_counted, picks_taken, start_moved, boundary_moved, charged, tested, in_range, sound_window, sound_start, sound_marks, sound_counts, sound_place};
 
 use model::{Compositions, Pick, Tests};
 
 // What no step touches.
-#[derive(Drop)]
+#[derive(Clone, Copy)]
 pub struct Settings {
     // n, the number of boards
     pub boards: usize,
@@ -16,7 +18,7 @@ pub struct Settings {
 }
 
 // Where the walk stands.
-#[derive(Drop)]
+#[derive(Clone, Copy)]
 pub struct Window {
     // picks taken m
     pub taken: Pick,
@@ -27,7 +29,7 @@ pub struct Window {
 }
 
 // What the tests said.
-#[derive(Drop)]
+#[derive(Clone, Copy)]
 pub struct TestMarks {
     // whether any test has failed, first no
     pub failed: bool,
@@ -36,14 +38,14 @@ pub struct TestMarks {
 }
 
 // The two counts, charged as the steps are made.
-#[derive(Drop)]
+#[derive(Clone, Copy)]
 pub struct Counts {
     pub compositions: Compositions,
     pub tests: Tests,
 }
 
 // In groups that change together: each step names its own, and the others stay.
-#[derive(Drop)]
+#[derive(Clone, Copy)]
 pub struct Place {
     pub settings: Settings,
     pub window: Window,

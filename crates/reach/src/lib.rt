@@ -1,4 +1,6 @@
 // The call for the table of reach: bit b of word a is set when a journey leads from a to b in the whole recording.
+#![tactic(auto)]
+
 ghost use Rattle.std.specs.Prelude.{◌≡◌, ◌*◌, ◌≤◌, length};
 ghost use Rattle.links.specs.Tables.{compose, within};
 ghost use Rattle.links.specs.Composed.{reach};
@@ -12,7 +14,7 @@ use model::Refusal;
 use verdicts::Verdict;
 
 // The table was written, or why not.
-#[derive(Drop)]
+#[derive(Clone, Copy)]
 pub enum Tabled {
     Written,
     Refused(Refusal),

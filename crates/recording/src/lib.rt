@@ -1,4 +1,6 @@
 // A reader of recording files. A file is gone over twice, in the same way: once to check it all, and once, if nothing refuses it, to write its picks.
+#![tactic(auto)]
+
 ghost use Rattle.std.specs.Prelude.{◌≡◌, true, cond, [], ◌+◌, ◌*◌, ◌≤◌, ◌<◌, length};
 ghost use Rattle.lists.specs.Tab.{splice};
 ghost use Rattle.recording.specs.Format.{flipped, commands, refusal_in, recording_at, is_ended};
@@ -8,7 +10,7 @@ use commands::{Command, Item};
 use model::{Board, Refusal};
 
 // What stands from a place on: a recording with the place behind its 45, or why there is none.
-#[derive(Drop)]
+#[derive(Clone, Copy)]
 pub enum Part {
     Ended {
         boards: usize,
@@ -19,7 +21,7 @@ pub enum Part {
 }
 
 // What a file is: n and the number of picks, or why it is refused.
-#[derive(Drop)]
+#[derive(Clone, Copy)]
 pub enum Reading {
     Read { boards: usize, picks: usize },
     Refused(Refusal),

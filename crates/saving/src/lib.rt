@@ -1,4 +1,6 @@
 // A writer of recording files: the file of a lent sequence. Its size is worked out before the first byte is written.
+#![tactic(auto)]
+
 ghost use Rattle.std.specs.Prelude.{◌≡◌, [], ◌∷◌, ◌+◌, ◌*◌, ◌≤◌, ◌<◌, length};
 ghost use Rattle.model.specs.Recording.{Clean, Recording};
 ghost use Rattle.lists.specs.Tab.{splice};
@@ -11,7 +13,7 @@ ghost use Rattle.saving.specs.Answers.{saving_says, save_says, save_leaves};
 use model::{Board, Refusal};
 
 // How many bytes the file has, or why nothing was written.
-#[derive(Drop)]
+#[derive(Clone, Copy)]
 pub enum Saving {
     Written(usize),
     Refused(Refusal),

@@ -1,4 +1,6 @@
 // Whether boards reach each other: the tests of measures 3 and 1 on a table of links between n boards, 2 to 32. Words are taken as they are found.
+#![tactic(auto)]
+
 ghost use Rattle.std.specs.Prelude.{◌≡◌, true, false, ◌≤◌, ◌<◌, length};
 ghost use Rattle.model.specs.Journey.{most_links};
 ghost use Rattle.links.specs.Tables.{within, full, connected, unmarked};

@@ -1,4 +1,6 @@
 // Sets of boards, as words: which rows of a later table a row of an earlier one takes in.
+#![tactic(auto)]
+
 ghost use Rattle.std.specs.Prelude.{◌≡◌, ◌*◌, ◌≤◌, ◌<◌, length, get_or};
 ghost use Rattle.lists.specs.Tab.{tab, zeros};
 ghost use Rattle.times.specs.Times.{cell};

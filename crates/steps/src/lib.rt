@@ -2,6 +2,8 @@
 // stands in parts s to b, the right ladder, over picks b + 1 to m, in part limit + 1, the window in part limit + 2, the footprint in limit + 3.
 // `right` has the words of a table and is lent from above: compositions of measures 3 and 4 copy the later table into it. What it holds is free before and
 // after.
+#![tactic(auto)]
+
 ghost use Rattle.std.specs.Prelude.{◌≡◌, true, not, ◌&&◌, ◌+◌, ◌-◌, ◌*◌, ◌≤◌, ◌<◌, length};
 ghost use Rattle.model.specs.Journey.{val};
 ghost use Rattle.place.specs.Places.{per_ladder};
@@ -298,7 +300,7 @@ pub fn is_finished(p: Place) -> bool
 
 // `Kept`: every part then holds what 01 says, as after a call for a pick. `Unkept`: nobody looks at the area afterwards, as in a whole run. `Held(k)`: nor
 // here, and the window is held at k picks, as in a decision. One function makes all of them, so that what it calls is called from one place.
-#[derive(Drop)]
+#[derive(Clone, Copy)]
 pub enum Mode {
     Kept,
     Unkept,

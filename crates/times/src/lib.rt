@@ -1,6 +1,8 @@
 // Tables of times between n boards, 2 to 32: n * n words of earliest arrivals, then n * n words of latest departures; 0 is none.
 // A table is written row by row, so that a loop over a row needs no division, and no branch but selects that the compiler turns into vector
 // code. Their composition is in `folds`.
+#![tactic(auto)]
+
 ghost use Rattle.std.specs.Prelude.{◌≡◌, ◌+◌, ◌*◌, ◌^◌, ◌<◌, ◌≤◌, length, if◌then◌else◌, bit_and, nat_eq};
 ghost use Rattle.lists.specs.Tab.{tab};
 ghost use Rattle.times.specs.Times.{times_words, own_times, all_in_time, out_of_time};

@@ -1,4 +1,6 @@
 // What the checks of opening, pick and whole run find, cause by cause in document 01's order. The three verdicts require nothing.
+#![tactic(auto)]
+
 ghost use Rattle.std.specs.Prelude.{◌≡◌, [], ◌∷◌, ◌+◌, ◌*◌, ◌≤◌, length, ltb};
 ghost use Rattle.checks.specs.Checks.{listed};
 ghost use Rattle.measures.specs.Kit.{kit};
@@ -11,7 +13,7 @@ use model::Refusal;
 use place::Place;
 
 // What the checks of a call find.
-#[derive(Drop)]
+#[derive(Clone, Copy)]
 pub enum Verdict {
     Clear,
     Refuse(Refusal),

@@ -1,0 +1,27 @@
+-- `area::compose_own` meets its contract, measure by measure.
+-- Assumes nothing.
+use mathlib.Core.Path.{◌∙◌, sym}
+use Rattle.measures.proofs.Words.{size_links}
+use Rattle.area.proofs.Lent.{onto_own}
+use Rattle.std.proofs.Common.{rules}
+use Rattle.area.proofs.compose_own.Goals as goal
+
+pub compose_times-requires : goal.compose_times-requires
+compose_times-requires c =
+    let h = c.requires in
+    let e = c.if-measure-eq4.true in (h.0, rw e at h.1, rw e at h.2, rw e at h.3)
+
+pub returns-then-measure-eq4 : goal.returns-then-measure-eq4
+returns-then-measure-eq4 c = rw c.if-measure-eq4.true c.compose_times.ensures
+
+pub compose_links-requires : goal.compose_links-requires
+compose_links-requires c =
+    let h = c.requires in
+    let e = c.if-measure-eq3.true in (h.0, sym (size_links _ _ c.if-measure-eq4.false) ∙ h.1, rw e at h.2, rw e at h.3)
+
+pub returns-then-measure-eq3 : goal.returns-then-measure-eq3
+returns-then-measure-eq3 c = rw c.if-measure-eq3.true c.compose_links.ensures
+
+pub returns : goal.returns
+returns c =
+    c.compose_with.ensures ∙ onto_own _ _ _ _ _ _ _ c.if-measure-eq4.false c.if-measure-eq3.false c.requires.5

@@ -1,0 +1,25 @@
+-- `area::zero_part` meets its contract: the part that is lent becomes zero.
+-- Assumes nothing.
+use native.Mathlib.Nat.{add-sub_cancel_left}
+use native.Mathlib.Omega.{arith}
+use Rattle.lists.specs.Tab.{splice}
+use Rattle.area.proofs.Lent.{fits_at}
+use Rattle.area.specs.Parts.{zero_at}
+use Rattle.std.proofs.Common.{rules}
+use Rattle.area.proofs.zero_part.Goals as goal
+
+pub overflow_mul-at : goal.overflow_mul-at
+overflow_mul-at c = omega (arith, fits_at c.width-e.ensures c.requires.1)
+
+pub overflow_add-at : goal.overflow_add-at
+overflow_add-at c = omega (arith, fits_at c.width-e.ensures c.requires.1)
+
+pub offset_bounds-area-at : goal.offset_bounds-area-at
+offset_bounds-area-at c = omega (arith, fits_at c.width-e.ensures c.requires.1)
+
+pub slice_bounds-zero_over-end : goal.slice_bounds-zero_over-end
+slice_bounds-zero_over-end c = omega (arith, fits_at c.width-e.ensures c.requires.1)
+
+pub returns : goal.returns
+unfolding splice zero_at
+returns c = simp (add-sub_cancel_left, c.width-e.ensures, c.zero_over.ensures)

@@ -1,0 +1,33 @@
+-- `calls::whole_run` meets its contract: the start, the steps, the words set to zero, the report.
+-- Assumes nothing.
+use mathlib.Core.Path.{ap, ◌∙◌}
+use native.Mathlib.Omega.{arith}
+use Rattle.place.specs.declared.Place.{Place}
+use Rattle.steps.specs.Walk.{reported}
+use Rattle.calls.specs.Calls.{report_says, whole_start, whole_report}
+use Rattle.calls.proofs.Loops.{whole_starts, whole_ends, whole_beyond, list-cost}
+use Rattle.std.proofs.Common.{rules}
+use Rattle.calls.proofs.whole_run.Goals as goal
+
+pub take_picks-q-requires : goal.take_picks-q-requires
+unfolding whole_start
+take_picks-q-requires c =
+    whole_starts _ _ _ _ _ _ c.requires (list-cost c.args.measure c.args.m c.requires.cap) c.whole_start-p.ensures.place
+    c.whole_start-p.auto.area
+
+pub report-requires : goal.report-requires
+report-requires c =
+    let t = c.take_picks-q.ensures.1.all-taken in
+    let k = c.requires.cap in
+    (c.take_picks-q.ensures.1.inside c.requires.some_picks, omega arith)
+
+pub returns : goal.returns
+unfolding whole_report
+returns c =
+    let b = c.whole_start-p.ensures in (
+      c.report.ensures ∙ ap (λ (x : Place). report_says (reported x) x)
+          (whole_ends c.args.n c.args.measure c.args.m c.args.words.now c.args.area.now c.requires b c.whole_start-p.auto.area
+          c.take_picks-q.ensures.0),
+      c.zero_needed.ensures ∙ whole_beyond c.args.n c.args.measure c.args.m c.args.words.now c.args.area.now _ b
+          c.take_picks-q.ensures.1.beyond,
+    )

@@ -1,0 +1,9 @@
+-- `folds::fold` meets its contract. The invariant is `Made`; word v is read before it is written (`made_read`).
+-- Assumes nothing.
+use Rattle.std.proofs.Common.{◌-◌, ◌∙◌, rules}
+use Rattle.lists.proofs.Tab.{Made, made_start, made_turn, made_read, made_all}
+use Rattle.folds.specs.Folds.{each, better}
+use Rattle.folds.proofs.fold.Given as goal
+
+abbrev pub invariant-loop-v : goal.invariant-loop-v
+invariant-loop-v l = Made (each (better l.late) l.initial.out l.row) l.n l.initial.out l.out l.v

@@ -1,0 +1,10 @@
+-- `folds::transpose` meets its contract. The invariant is `Rowed`.
+-- Assumes nothing.
+use Rattle.std.proofs.Common.{◌-◌, arith, rules}
+use Rattle.times.specs.Times.{cell}
+use Rattle.lists.proofs.Splice.{written-part}
+use Rattle.times.proofs.Rows.{row_le, Rowed, rowed_start, rowed_turn, rowed_all}
+use Rattle.folds.proofs.transpose.Given as goal
+
+abbrev pub invariant-loop-u : goal.invariant-loop-u
+invariant-loop-u l = Rowed l.n (λ i j. cell l.n l.half j i) l.initial.out l.out l.u

@@ -1,0 +1,10 @@
+-- `folds::transpose_row` meets its contract. The invariant is `Made`.
+-- Assumes nothing.
+use Rattle.std.proofs.Common.{◌-◌, refl, arith, rules}
+use Rattle.lists.proofs.Tab.{Made, made_start, made_turn, made_all}
+use Rattle.times.specs.Times.{cell}
+use Rattle.times.proofs.Rows.{row_le}
+use Rattle.folds.proofs.transpose_row.Given as goal
+
+abbrev pub invariant-loop-v : goal.invariant-loop-v
+invariant-loop-v l = Made (λ i. cell l.n l.half i l.u) l.n l.initial.out l.out l.v

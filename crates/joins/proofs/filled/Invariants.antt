@@ -1,0 +1,8 @@
+-- `joins::filled` ends: the count is at most u, so that it fits.
+-- Assumes nothing.
+use Prim.Native.Nat.{◌-◌, ◌≤◌}
+use Rattle.std.proofs.Common.{rules}
+use Rattle.joins.proofs.filled.Given as goal
+
+abbrev pub invariant-loop-u : goal.invariant-loop-u
+invariant-loop-u l = l.k ≤ l.u

@@ -1,0 +1,20 @@
+-- `joins::join_rows` meets its contract. The invariant is `Made`; word u is read before it is written (`made_read`).
+-- Assumes nothing.
+use mathlib.Core.Path.{◌∙◌}
+use Prim.Native.Nat.{◌-◌}
+use Rattle.lists.proofs.Tab.{Made, made_start, made_turn, made_read, made_all}
+use Rattle.joins.specs.LookUps.{looked_row}
+use Rattle.std.proofs.Common.{rules}
+use Rattle.joins.proofs.join_rows.Goals as goal
+
+pub loop-u-init : goal.loop-u-init
+loop-u-init c = made_start c.requires.1
+
+pub loop-u-preserved : goal.loop-u-preserved
+unfolding looked_row
+loop-u-preserved c =
+    let inv = c.loop-u.invariant in
+    made_turn inv c.loop-u-test.true (c.cleared.ensures ∙ simp (c.through.ensures, made_read inv c.loop-u-test.true))
+
+pub returns : goal.returns
+returns c = made_all c.loop-u.invariant c.loop-u-test.false

@@ -1,0 +1,10 @@
+-- `links::fill_rows` meets its contract. The invariant is `Made`.
+-- Assumes nothing.
+use Prim.Native.Nat.{◌-◌}
+use Rattle.lists.proofs.Tab.{Made, made_start, made_turn, made_all}
+use Rattle.links.specs.Tables.{without}
+use Rattle.std.proofs.Common.{rules}
+use Rattle.links.proofs.fill_rows.Given as goal
+
+abbrev pub invariant-loop-u : goal.invariant-loop-u
+invariant-loop-u l = Made (without l.boards) l.n l.initial.out l.out l.u

@@ -1,0 +1,10 @@
+-- `links::intersect_into` meets its contract. The invariant is `Made`; word u is read before it is written (`made_read`).
+-- Assumes nothing.
+use Prim.Native.Nat.{◌-◌}
+use Rattle.lists.proofs.Tab.{Made, made_start, made_turn, made_read, made_all}
+use Rattle.links.specs.Tables.{both_row, intersection}
+use Rattle.std.proofs.Common.{rules}
+use Rattle.links.proofs.intersect_into.Given as goal
+
+abbrev pub invariant-loop-u : goal.invariant-loop-u
+invariant-loop-u l = Made (both_row l.initial.t l.right) l.n l.initial.t l.t l.u

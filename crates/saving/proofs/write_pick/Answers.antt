@@ -1,0 +1,40 @@
+-- `saving::write_pick` meets its contract: the commands of the changes and the 50, one behind the other.
+-- Assumes nothing.
+-- the commands of the changes
+use mathlib.Core.List.{List, [], ◌∷◌, ◌++◌}
+use Prim.Native.Nat.{◌+◌, ◌≤◌}
+use native.Mathlib.Omega.{arith}
+use Rattle.std.proofs.Common.{rules}
+use lib.ListN.{length}
+use Rattle.recording.specs.Grammar.{Act, pick}
+use Rattle.saving.specs.File.{change_acts, pick_acts}
+use Rattle.saving.specs.Puts.{bytes_of}
+use Rattle.saving.proofs.Put.{puts_pick, puts_more, first_room, second_room}
+use Rattle.saving.proofs.write_pick.Goals as goal
+
+abbrev acts : tie.Start → List Act
+acts c = change_acts c.args.n c.args.old.now c.args.new.now
+
+room : (c : tie.Start) → c.args.at + length (bytes_of (acts c ++ (pick ∷ []))) ≤ length c.args.out.now
+unfolding pick_acts
+room c = c.requires.3
+
+pub write_changes-next-requires : goal.write_changes-next-requires
+write_changes-next-requires c =
+    let p = c.requires in
+    (p.0, p.1, p.2, first_room c.args.out.now c.args.at (acts c) (pick ∷ []) (room c))
+
+pub bounds-out-next : goal.bounds-out-next
+unfolding bytes_of
+bounds-out-next c =
+    let l = second_room c.args.out.now c.args.at (acts c) (pick ∷ []) (room c) c.write_changes-next.ensures in
+    omega arith
+
+pub overflow_add-result : goal.overflow_add-result
+overflow_add-result c = let l = slice-write-out c in omega arith
+
+pub returns : goal.returns
+unfolding pick_acts
+returns c =
+    puts_more (first_room c.args.out.now c.args.at (acts c) (pick ∷ []) (room c)) c.write_changes-next.ensures
+    (puts_pick (slice-write-out c))

@@ -1,0 +1,10 @@
+-- `saving::write_row` meets its contract. The invariant is `Passed`; the measure is the word of the links still to be written.
+-- Assumes nothing.
+use native.Mathlib.Omega.{arith}
+use Rattle.std.proofs.Common.{rules}
+use Rattle.links.proofs.Bits.{without_less}
+use Rattle.saving.proofs.Rest.{Passed, passed_start, passed_room, passed_turn, passed_long, passed_all}
+use Rattle.saving.proofs.write_row.Given as goal
+
+abbrev pub invariant-loop-rest : goal.invariant-loop-rest
+invariant-loop-rest l = Passed l.opens l.old l.new l.n l.a l.at l.initial.out l.out l.next l.rest

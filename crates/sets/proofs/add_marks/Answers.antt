@@ -1,0 +1,19 @@
+-- `sets::add_marks` meets its contract. The invariant is `Made`; word v is read before it is written (`made_read`).
+-- Assumes nothing.
+use Prim.Native.Nat.{◌-◌}
+use lib.ListN.{get_or}
+use Rattle.lists.proofs.Tab.{Made, made_start, made_turn, made_read, made_all}
+use Rattle.sets.specs.Marks.{marked_row}
+use Rattle.std.proofs.Common.{rules}
+use Rattle.sets.proofs.add_marks.Goals as goal
+
+pub loop-v-init : goal.loop-v-init
+loop-v-init c = made_start c.requires.1.0
+
+pub loop-v-preserved : goal.loop-v-preserved
+unfolding marked_row
+loop-v-preserved c =
+    made_turn c.loop-v.invariant c.loop-v-test.true (simp (c.mark_of.ensures, made_read c.loop-v.invariant c.loop-v-test.true))
+
+pub returns : goal.returns
+returns c = made_all c.loop-v.invariant c.loop-v-test.false

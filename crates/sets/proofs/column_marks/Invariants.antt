@@ -1,0 +1,17 @@
+-- `sets::column_marks` meets its contract. The invariant is the definition at w; a turn is `columns_next`.
+-- Assumes nothing.
+use mathlib.Core.Path.{◌≡◌, sym, ◌∙◌}
+use Prim.Native.Nat.{◌-◌, ◌≤◌}
+use native.Mathlib.Omega.{arith}
+use native.Mathlib.Nat.{le_of_eq}
+use lib.ListN.{length}
+use Rattle.lists.specs.Tab.{tab}
+use Rattle.times.specs.Times.{cell}
+use Rattle.times.proofs.Rows.{row_le, part_length}
+use Rattle.sets.specs.Marks.{marks}
+use Rattle.sets.proofs.Bits.{columns_none, columns_next}
+use Rattle.std.proofs.Common.{rules}
+use Rattle.sets.proofs.column_marks.Given as goal
+
+abbrev pub invariant-loop-w : goal.invariant-loop-w
+invariant-loop-w l = (l.w ≤ l.n) × ((length l.sets ≡ l.n) × (l.sets ≡ tab (λ u. marks (λ i. cell l.n l.half i u) l.w) l.n))
