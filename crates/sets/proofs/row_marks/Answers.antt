@@ -9,6 +9,10 @@ use Rattle.sets.specs.Marks.{marks}
 use Rattle.std.proofs.Common.{rules}
 use Rattle.sets.proofs.row_marks.Goals as goal
 
+pub loop-v-init : goal.loop-v-init
+unfolding marks
+loop-v-init c = search rules
+
 pub loop-v-preserved : goal.loop-v-preserved
 unfolding marks
 loop-v-preserved c = (search rules, rw (add-one c.loop-v.v, c.loop-v.invariant.1, c.mark_of-set.ensures))

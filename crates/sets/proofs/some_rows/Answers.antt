@@ -14,6 +14,10 @@ use Rattle.sets.proofs.Bits.{any_lent}
 use Rattle.std.proofs.Common.{rules}
 use Rattle.sets.proofs.some_rows.Goals as goal
 
+pub loop-w-init : goal.loop-w-init
+unfolding marks
+loop-w-init c = search rules
+
 pub overflow_mul-at : goal.overflow_mul-at
 overflow_mul-at c = omega (arith, row_le _ c.loop-w-test.true)
 
