@@ -1,5 +1,5 @@
 -- Ways of links within a pick, on the words as they are found: its own table marks the pairs that at most h links join. Assumes nothing.
-use mathlib.Core.Path.{◌≡◌, refl, sym, subst}
+use mathlib.Core.Path.{◌≡◌, refl, sym, subst, ◌∙◌}
 use mathlib.Core.Logic.{◌≢◌, ◌⊎◌, inl, inr, ⊎_elim, ◌↔◌}
 use mathlib.Core.List.{List}
 use Prim.Native.Nat.{ℕ, zero, suc, ◌^◌, ◌≤◌, ◌<◌}
@@ -80,26 +80,26 @@ within_way n (suc h) t n32 u v hu hv =
 abbrev Step : ℕ → List ℕ → ℕ → ℕ → ℕ → Type 0
 Step n t v u w = T (link t u w) × ((w < n) ⊎ (w ≡ v))
 
-way_path : {n c u v : ℕ} {t : List ℕ} → Way t n c u v → Path (Step n t v) c u v
+way_path : {n : ℕ} {t : List ℕ} {c u v : ℕ} → Way t n c u v → Path (Step n t v) c u v
 way_path (one l) = next (l, inr refl) end
 way_path (more l h s) = next (l, inl h) (way_path s)
 
-path_way : (n : ℕ) (t : List ℕ) {d u v : ℕ} → u ≢ v → Path (Step n t v) d u v → Short n d t u v
-path_way n t ne end = absurd (ne refl)
-path_way n t ne (next {c = c} {u = u} {w = w} {v = v} l s) =
+path_way : (n : ℕ) (t : List ℕ) (z : ℕ) {d u v : ℕ} → u ≢ v → v ≡ z → Path (Step n t z) d u v → Short n d t u v
+path_way n t z ne to end = absurd (ne refl)
+path_way n t z ne to (next {c = c} {u = u} {w = w} {v = v} l s) =
     ⊎_elim (λ (e : w ≡ v). (1, omega arith, one (subst (λ (x : ℕ). T (link t u x)) e l.0)))
-    (λ (e : w ≢ v). let q = path_way n t e s in let h : q.0 ≤ c = q.1 in (
+    (λ (e : w ≢ v). let q = path_way n t z e to s in let h : q.0 ≤ c = q.1 in (
       suc q.0,
       omega arith,
-      more l.0 (⊎_elim (λ (x : w < n). x) (λ (x : w ≡ v). absurd (e x)) l.1) q.2,
+      more l.0 (⊎_elim (λ (x : w < n). x) (λ (x : w ≡ z). absurd (e (x ∙ sym to))) l.1) q.2,
     ))
     (eq_or w v)
 
 pub way_short : {n c u v : ℕ} {t : List ℕ} → n ≤ 32 → u < n → v < 32 → u ≢ v → Way t n c u v → Short n most_links t u v
-way_short {n} {t = t} n32 hu hv ne s =
+way_short {n} {v = v} {t = t} n32 hu hv ne s =
     let q = path_short 32 (λ x w l. ⊎_elim (λ (h : w < n). lt_of_lt_of_le h n32) (λ (e : w ≡ _). subst (λ (y : ℕ). y < 32) (sym e) hv) l.1)
     (lt_of_lt_of_le hu n32) (way_path s) in
-    let r = path_way n t ne q.2 in
+    let r = path_way n t v ne refl q.2 in
     let a : q.0 < 32 = q.1 in
     let b : r.0 ≤ q.0 = r.1 in
     (r.0, omega arith, r.2)
