@@ -1,8 +1,13 @@
 // The cases that are files: each argument names one, as `compare_listed` reads it.
 #![tactic(auto)]
 
+ghost use Rattle.std.specs.Prelude.{◌≤◌, length};
+
 use compare_tallies::{Case, Group, Outcome, Tally};
 use recording::Reading;
+use std::fs::File;
+use std::io::Read;
+use std::rt::{Env, Files};
 
 // The most picks of a file, as `lengths` has it.
 const LIMIT: usize = 40;
@@ -41,17 +46,40 @@ fn read_case(case: Case, bytes: &[u8], words: &mut [u32]) -> Loaded {
     found_in(case, r, compare_cases::is_marked(words))
 }
 
-fn load_case(case: Case, name: &[u8], words: &mut [u32]) -> Loaded {
-    let fd = os::open_read(name);
-    if fd < 0 {
-        return Loaded {
-            case: case,
-            read: compare_tallies::not_run(),
-        };
+// A case whose file cannot be had.
+fn not_loaded(case: Case) -> Loaded {
+    Loaded {
+        case: case,
+        read: compare_tallies::not_run(),
     }
+}
+
+// Reads until buf is full, the input ends or a read fails, and answers how many bytes it put at the start of buf.
+fn read_full<F: Read>(file: &mut F, buf: &mut [u8]) -> usize
+    ensures { result ≤ length buf.new }
+{
+    let mut done = 0;
+    for _ in 0..buf.len() {
+        let Ok(n) = file.read(&mut buf[done..]) else {
+            break;
+        };
+        if n == 0 {
+            break;
+        }
+        done += n;
+    }
+    done
+}
+
+fn load_case<R: Files>(rt: &R, case: Case, name: &[u8], words: &mut [u32]) -> Loaded {
+    let Ok(path) = str::from_utf8(name) else {
+        return not_loaded(case);
+    };
+    let Ok(mut file) = File::open(rt, path) else {
+        return not_loaded(case);
+    };
     let mut bytes = io::buffer();
-    let n = io::read_full(fd, &mut bytes);
-    libc::close(fd);
+    let n = read_full(&mut file, &mut bytes);
     read_case(case, &bytes[..n], words)
 }
 
@@ -108,28 +136,39 @@ fn found_case(t: Tally, f: Loaded, text: &[u8], words: &[u32], area: &mut [u32])
 }
 
 // A word that is no case of the group leaves the tally.
-fn word_case(t: Tally, case: Case, text: &[u8], words: &mut [u32], area: &mut [u32]) -> Tally {
+fn word_case<R: Files>(
+    rt: &R,
+    t: Tally,
+    case: Case,
+    text: &[u8],
+    words: &mut [u32],
+    area: &mut [u32],
+) -> Tally {
     let group = t.group;
     if !is_case(group, text) {
         return t;
     }
     let end = compare_listed::name_end(text);
-    let f = load_case(case, &text[0..end], words);
+    let f = load_case(rt, case, &text[0..end], words);
     found_case(t, f, text, words, area)
 }
 
-// The number of a case is that of its argument.
-fn argument_case(t: Tally, case: Case, words: &mut [u32], area: &mut [u32]) -> Tally {
-    let mut text = io::buffer();
-    let length = os::arg(case.number, &mut text);
-    word_case(t, case, &text[..length], words, area)
-}
-
-pub fn tally(group: Group, measure: usize, words: &mut [u32], area: &mut [u32]) -> Tally {
+// The cases of the arguments: the number of a case is that of its argument.
+pub fn tally<R: Env + Files>(
+    rt: &R,
+    group: Group,
+    measure: usize,
+    words: &mut [u32],
+    area: &mut [u32],
+) -> Tally {
     let mut t = compare_tallies::no_cases(group);
-    let end = os::arg_count();
-    for i in 1..end {
-        t = argument_case(t, compare_tallies::numbered(i, measure), words, area);
+    for i in 1..usize::MAX {
+        let mut text = io::buffer();
+        let Ok(length) = rt.arg(i, &mut text) else {
+            break;
+        };
+        let case = compare_tallies::numbered(i, measure);
+        t = word_case(rt, t, case, &text[..length], words, area);
     }
     t
 }

@@ -3,13 +3,15 @@
 
 use calls::Answer;
 use decision::Decision;
-use libc::STDOUT_FILENO;
 use reach::Tabled;
 
 // 01's largest recording, and its largest limit.
 pub const MOST_BOARDS: usize = 32;
 
 pub const MOST_PICKS: usize = 4096;
+
+// The descriptor of standard output.
+pub const STDOUT: i32 = 1;
 
 // ---- groups
 
@@ -209,7 +211,7 @@ fn is_same_outcome(a: Outcome, b: Outcome) -> bool {
 // ---- lines
 
 fn print(text: &[u8]) {
-    io::write_all(STDOUT_FILENO, text);
+    io::write_all(STDOUT, text);
 }
 
 fn print_kind(kind: Kind) {
@@ -259,7 +261,7 @@ fn print_name(group: Group) {
 
 fn print_number(x: usize) {
     print(b" ");
-    io::print_decimal(STDOUT_FILENO, x as u64);
+    io::print_decimal(STDOUT, x as u64);
 }
 
 // A number, or a dash where it is 0.
