@@ -13,3 +13,6 @@ use Rattle.commands.proofs.operands_of.Given as goal
 
 abbrev pub invariant-loop-i : goal.invariant-loop-i
 invariant-loop-i l = (l.i ≤ 5) × (lookup (drop l.i shapes) l.byte ≡ arity_of l.byte)
+
+abbrev pub decreases-loop-i : goal.decreases-loop-i
+decreases-loop-i l = 5 - l.i

@@ -11,3 +11,6 @@ use Rattle.joins.proofs.add_fours.Given as goal
 
 abbrev pub invariant-loop-w : goal.invariant-loop-w
 invariant-loop-w l = (l.w ≤ l.n) × ((length l.out ≡ l.n) × (l.out ≡ tab (through_row l.left l.right l.w) l.n))
+
+abbrev pub decreases-loop-w : goal.decreases-loop-w
+decreases-loop-w l = l.n - l.w

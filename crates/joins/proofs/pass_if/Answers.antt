@@ -9,4 +9,4 @@ use Rattle.joins.proofs.pass_if.Goals as goal
 pub returns-then-not-linked : goal.returns-then-not-linked
 returns-then-not-linked c =
     let p = c.requires in
-    no_pass _ p.1.1.1 (sym c.linked.ensures ∙ not-true _ c.if-not-linked.true) p.1.1.0
+    no_pass _ p.1.1.1 (sym c.linked.ensures ∙ c.if-not-linked.true) p.1.1.0

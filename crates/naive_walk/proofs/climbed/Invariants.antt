@@ -8,3 +8,6 @@ use Rattle.naive_walk.proofs.climbed.Given as goal
 
 abbrev pub invariant-loop-y : goal.invariant-loop-y
 invariant-loop-y l = (l.initial.y.s ≤ l.y.s) × ((l.y.s ≤ l.y.m) × Spends (l.y.s - l.initial.y.s) (most_per_rise * (l.y.s - l.initial.y.s)) (l.y.s - l.initial.y.s) l.initial.y l.y)
+
+abbrev pub decreases-loop-y : goal.decreases-loop-y
+decreases-loop-y l = l.y.m - l.y.s

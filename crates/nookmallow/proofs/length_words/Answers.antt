@@ -10,7 +10,7 @@ use Rattle.nookmallow.proofs.length_words.Goals as goal
 
 pub returns-then-not-are_flags : goal.returns-then-not-are_flags
 unfolding length_answers
-returns-then-not-are_flags c = simp (sym c.are_flags.ensures ∙ not-true _ c.if-not-are_flags.true)
+returns-then-not-are_flags c = simp (sym c.are_flags.ensures ∙ c.if-not-are_flags.true)
 
 pub answer_words-requires : goal.answer_words-requires
 answer_words-requires c = subst NarrowAnswer (sym c.length-r.ensures.0) (length_narrow _)
@@ -21,5 +21,5 @@ returns c =
     c.answer_words.ensures ∙ ap answer_words (c.length-r.ensures.0 ∙ simp (
       c.place_of.ensures,
       sym c.are_flags.ensures
-          ∙ not-false _ c.if-not-are_flags.false,
+          ∙ c.if-not-are_flags.false,
     ))

@@ -11,8 +11,8 @@ use Rattle.nookmallow.proofs.nookmallow_pick.Goals as goal
 
 pub returns-then-not-are_flags : goal.returns-then-not-are_flags
 returns-then-not-are_flags c = (
-  flag_refused _ _ _ (sym c.are_flags.ensures ∙ not-true _ c.if-not-are_flags.true),
-  flag-kept _ _ _ (sym c.are_flags.ensures ∙ not-true _ c.if-not-are_flags.true),
+  flag_refused _ _ _ (sym c.are_flags.ensures ∙ c.if-not-are_flags.true),
+  flag-kept _ _ _ (sym c.are_flags.ensures ∙ c.if-not-are_flags.true),
 )
 
 pub words_of-requires : goal.words_of-requires
@@ -22,7 +22,7 @@ words_of-requires c =
 
 pub returns-in-Taken : goal.returns-in-Taken
 returns-in-Taken c =
-    let f = sym c.are_flags.ensures ∙ not-false _ c.if-not-are_flags.false in
+    let f = sym c.are_flags.ensures ∙ c.if-not-are_flags.false in
     let e = c.place_of.ensures in
     let a = c.args.area.now in
     let w = c.args.words.now in (
@@ -32,7 +32,7 @@ returns-in-Taken c =
 
 pub returns-in-NotTaken : goal.returns-in-NotTaken
 returns-in-NotTaken c =
-    let f = sym c.are_flags.ensures ∙ not-false _ c.if-not-are_flags.false in
+    let f = sym c.are_flags.ensures ∙ c.if-not-are_flags.false in
     let e = c.place_of.ensures in
     let a = c.args.area.now in
     let w = c.args.words.now in

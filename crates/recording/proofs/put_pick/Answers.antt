@@ -7,8 +7,8 @@ use Rattle.lists.specs.Tab.{splice}
 use Rattle.recording.proofs.put_pick.Goals as goal
 
 pub returns-then-not-writes : goal.returns-then-not-writes
-returns-then-not-writes c = simp (not-true c.args.writes c.if-not-writes.true)
+returns-then-not-writes c = simp (c.if-not-writes.true)
 
 pub returns : goal.returns
 unfolding splice
-returns c = simp (not-false c.args.writes c.if-not-writes.false, add-sub_cancel_left, c.copy_over.ensures, c.requires.0)
+returns c = simp (c.if-not-writes.false, add-sub_cancel_left, c.copy_over.ensures, c.requires.0)

@@ -8,3 +8,6 @@ use Rattle.saving.proofs.write_row.Given as goal
 
 abbrev pub invariant-loop-rest : goal.invariant-loop-rest
 invariant-loop-rest l = Passed l.opens l.old l.new l.n l.a l.at l.initial.out l.out l.next l.rest
+
+abbrev pub decreases-loop-rest : goal.decreases-loop-rest
+decreases-loop-rest l = l.rest

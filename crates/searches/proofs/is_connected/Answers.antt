@@ -10,11 +10,11 @@ use Rattle.searches.proofs.is_connected.Goals as goal
 pub returns-then-not-reaches_all : goal.returns-then-not-reaches_all
 unfolding connected
 returns-then-not-reaches_all c =
-    let e = sym c.reaches_all.ensures ∙ not-true _ c.if-not-reaches_all.true in
+    let e = sym c.reaches_all.ensures ∙ c.if-not-reaches_all.true in
     rw (full_first _ _ c.requires.0, e)
 
 pub returns : goal.returns
 unfolding connected
 returns c =
-    let e = sym c.reaches_all.ensures ∙ not-false _ c.if-not-reaches_all.false in
+    let e = sym c.reaches_all.ensures ∙ c.if-not-reaches_all.false in
     rw (full_first _ _ c.requires.0, e) c.all_reach.ensures

@@ -9,3 +9,6 @@ use Rattle.searches.proofs.reaches_all.Given as goal
 
 abbrev pub invariant-loop-s : goal.invariant-loop-s
 invariant-loop-s l = Gone l.n l.t l.s l.rest
+
+abbrev pub decreases-loop-s : goal.decreases-loop-s
+decreases-loop-s l = l.rest

@@ -12,3 +12,6 @@ use Rattle.steps.proofs.climb.Given as goal
 abbrev pub invariant-loop-k : goal.invariant-loop-k
 invariant-loop-k l = Climb l.initial.q l.initial.area l.initial.k l.q l.area l.k × Lends l.q.settings (length l.right)
     × (length l.right ≡ length l.initial.right)
+
+abbrev pub decreases-loop-k : goal.decreases-loop-k
+decreases-loop-k l = l.k

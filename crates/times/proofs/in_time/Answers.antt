@@ -12,13 +12,13 @@ pub loop-u-init : goal.loop-u-init
 loop-u-init c = (search rules, every_none _)
 
 pub returns-then-not-row_in_time : goal.returns-then-not-row_in_time
-returns-then-not-row_in_time c = sym (every_stop _ _ _ c.loop-u-test.true (sym c.row_in_time.ensures ∙ not-true _ c.if-not-row_in_time.true))
+returns-then-not-row_in_time c = sym (every_stop _ _ _ c.loop-u-test.true (sym c.row_in_time.ensures ∙ c.if-not-row_in_time.true))
     ∙ below_all _ _ _
 
 pub loop-u-preserved : goal.loop-u-preserved
 loop-u-preserved c = (
   omega (arith, c.loop-u-test.true),
-  every-next _ _ c.loop-u.invariant.1 (sym c.row_in_time.ensures ∙ not-false _ c.if-not-row_in_time.false),
+  every-next _ _ c.loop-u.invariant.1 (sym c.row_in_time.ensures ∙ c.if-not-row_in_time.false),
 )
 
 pub returns : goal.returns

@@ -40,7 +40,7 @@ bounds-t-half c = let p = pairs c in omega (arith, p.1)
 pub returns-then-not-no_later : goal.returns-then-not-no_later
 returns-then-not-no_later c =
     pair_not c.args.n c.args.turn c.args.t.now c.args.a.0 c.args.b.0 c.requires.1.1.0
-    (sym c.no_later.ensures ∙ not-true _ c.if-not-no_later.true)
+    (sym c.no_later.ensures ∙ c.if-not-no_later.true)
 
 pub offset_bounds-t-back : goal.offset_bounds-t-back
 offset_bounds-t-back c = let p = pairs c in omega (arith, p.1)
@@ -60,4 +60,4 @@ bounds-t-half-2 c = let p = pairs c in omega (arith, p.0)
 pub returns : goal.returns
 returns c =
     c.no_later-2.ensures ∙ pair_last c.args.n c.args.turn c.args.t.now c.args.a.0 c.args.b.0 c.requires.1.1.0
-    (sym c.no_later.ensures ∙ not-false _ c.if-not-no_later.false)
+    (sym c.no_later.ensures ∙ c.if-not-no_later.false)

@@ -12,12 +12,12 @@ loop-v-init c = (search rules, every_none _)
 
 pub returns-then-not-pair_in_time : goal.returns-then-not-pair_in_time
 unfolding below_in_time
-returns-then-not-pair_in_time c = sym (every_stop _ _ _ c.loop-v-test.true (sym c.pair_in_time.ensures ∙ not-true _ c.if-not-pair_in_time.true))
+returns-then-not-pair_in_time c = sym (every_stop _ _ _ c.loop-v-test.true (sym c.pair_in_time.ensures ∙ c.if-not-pair_in_time.true))
 
 pub loop-v-preserved : goal.loop-v-preserved
 loop-v-preserved c = (
   omega (arith, c.loop-v-test.true),
-  every-next _ _ c.loop-v.invariant.1 (sym c.pair_in_time.ensures ∙ not-false _ c.if-not-pair_in_time.false),
+  every-next _ _ c.loop-v.invariant.1 (sym c.pair_in_time.ensures ∙ c.if-not-pair_in_time.false),
 )
 
 pub returns : goal.returns

@@ -9,16 +9,16 @@ use Rattle.place.proofs.Place.is_in_range.Goals as goal
 
 pub returns-then-not-is_between : goal.returns-then-not-is_between
 unfolding in_range
-returns-then-not-is_between c = and_stop _ (sym c.is_between.ensures ∙ not-true _ c.if-not-is_between.true)
+returns-then-not-is_between c = and_stop _ (sym c.is_between.ensures ∙ c.if-not-is_between.true)
 
 pub returns-then-not-is_between-2 : goal.returns-then-not-is_between-2
 unfolding in_range
 returns-then-not-is_between-2 c =
-    and_step (sym c.is_between.ensures ∙ not-false _ c.if-not-is_between.false)
-    (and_stop _ (sym c.is_between-2.ensures ∙ not-true _ c.if-not-is_between-2.true))
+    and_step (sym c.is_between.ensures ∙ c.if-not-is_between.false)
+    (and_stop _ (sym c.is_between-2.ensures ∙ c.if-not-is_between-2.true))
 
 pub returns : goal.returns
 unfolding in_range
 returns c =
-    and_step (sym c.is_between.ensures ∙ not-false _ c.if-not-is_between.false) (and_step (sym
-    c.is_between-2.ensures ∙ not-false _ c.if-not-is_between-2.false) c.is_between-3.ensures)
+    and_step (sym c.is_between.ensures ∙ c.if-not-is_between.false) (and_step (sym
+    c.is_between-2.ensures ∙ c.if-not-is_between-2.false) c.is_between-3.ensures)
