@@ -10,18 +10,19 @@ use lib.ListN.{get_or}
 use Rattle.std.proofs.Common.{rules}
 use Rattle.saving.proofs.Size.{Counted, counted_start, few_ones, counted_turn, counted_all}
 use Rattle.saving.proofs.pick_size.Goals as goal
+use Rattle.saving.proofs.pick_size.Goals.{Start}
 
-ones-few : (c : tie.Start invariant-loop decreases-loop) (a : ℕ) → ones (bit_xor (get_or c.args.old.now a 0) (get_or c.args.new.now a 0)) ≤ 32
+ones-few : (c : Start) (a : ℕ) → ones (bit_xor (get_or c.args.old.now a 0) (get_or c.args.new.now a 0)) ≤ 32
 ones-few c a = let p = c.requires in few_ones c.args.n c.args.old.now c.args.new.now a p.0 p.1.words p.2.words
 
-most : (c : tie.Start invariant-loop decreases-loop) {links a : ℕ} → Counted c.args.n c.args.old.now c.args.new.now links a → links ≤ 1024
+most : (c : Start) {links a : ℕ} → Counted c.args.n c.args.old.now c.args.new.now links a → links ≤ 1024
 most c i = omega (arith, i.low, i.few, c.requires.0)
 
 pub loop-a-init : goal.loop-a-init
 loop-a-init _ = counted_start
 
 pub overflow_add-links : goal.overflow_add-links
-overflow_add-links c = omega (arith, ones-few c c.loop-a.a, c.loop-a.invariant.few, c.loop-a.invariant.low, c.requires.0)
+overflow_add-links c = omega (arith, ones-few (goal.at.overflow_add-links c).Start c.loop-a.a, c.loop-a.invariant.few, c.loop-a.invariant.low, c.requires.0)
 
 pub loop-a-preserved : goal.loop-a-preserved
 loop-a-preserved c =
@@ -29,15 +30,15 @@ loop-a-preserved c =
     counted_turn c.loop-a.invariant c.loop-a-test.true p.0 p.1.words p.2.words
 
 pub overflow_cast-result : goal.overflow_cast-result
-overflow_cast-result c = omega (arith, most c c.loop-a.invariant)
+overflow_cast-result c = omega (arith, most (goal.at.overflow_cast-result c).Start c.loop-a.invariant)
 
 pub overflow_mul-result : goal.overflow_mul-result
-overflow_mul-result c = omega (arith, most c c.loop-a.invariant)
+overflow_mul-result c = omega (arith, most (goal.at.overflow_mul-result c).Start c.loop-a.invariant)
 
 pub overflow_add-result : goal.overflow_add-result
-overflow_add-result c = omega (arith, most c c.loop-a.invariant)
+overflow_add-result c = omega (arith, most (goal.at.overflow_add-result c).Start c.loop-a.invariant)
 
 pub returns : goal.returns
 returns c =
     let i = c.loop-a.invariant in
-    (counted_all i c.loop-a-test.false, omega (arith, most c i))
+    (counted_all i c.loop-a-test.false, omega (arith, most (goal.at.returns c).Start i))

@@ -20,14 +20,15 @@ use Rattle.checks.proofs.Lent.{lent-recording}
 use Rattle.saving.specs.Answers.{lent_file, save_verdict}
 use Rattle.saving.proofs.Causes.{refused_by, written_by}
 use Rattle.saving.proofs.save.Goals as goal
+use Rattle.saving.proofs.save.Goals.{Start}
 
 so : {x y z : Bool} → x ≡ y → not x ≡ z → not y ≡ z
 so e f = ap not (sym e) ∙ f
 
-whole_words : (c : tie.Start) → length c.args.words.now / c.args.n * c.args.n ≤ length c.args.words.now
+whole_words : (c : Start) → length c.args.words.now / c.args.n * c.args.n ≤ length c.args.words.now
 whole_words c = omega (arith, div-add-mod' (length c.args.words.now) c.args.n)
 
-recorded : (c : tie.Start) {x : Bool} → let n = c.args.n in let w = c.args.words.now in
+recorded : (c : Start) {x : Bool} → let n = c.args.n in let w = c.args.words.now in
     x ≡ clean_picks n w (length w / n) → not x ≡ false → Recording n (lent_picks n w (length w / n))
 recorded c e f =
     let n = c.args.n in
@@ -63,7 +64,7 @@ returns-then-m-gt4096 c =
 
 pub are_clean-requires : goal.are_clean-requires
 are_clean-requires c =
-    ((between_says _ _ _ (holds_by c.is_between.ensures c.if-not-is_between.false)).1, (c.if-m-gt4096.false, whole_words c))
+    ((between_says _ _ _ (holds_by c.is_between.ensures c.if-not-is_between.false)).1, (c.if-m-gt4096.false, whole_words (goal.at.are_clean-requires c).Start))
 
 pub returns-then-not-are_clean : goal.returns-then-not-are_clean
 unfolding save_verdict
@@ -78,8 +79,8 @@ file_size-size-requires c =
     (
       (between_says _ _ _ (holds_by c.is_between.ensures c.if-not-is_between.false)).1,
       c.if-m-gt4096.false,
-      whole_words c,
-      recorded c c.are_clean.ensures c.if-not-are_clean.false,
+      whole_words (goal.at.file_size-size-requires c).Start,
+      recorded (goal.at.file_size-size-requires c).Start c.are_clean.ensures c.if-not-are_clean.false,
     )
 
 pub returns-then-out-size : goal.returns-then-out-size
@@ -96,8 +97,8 @@ write_file-requires c =
     (
       (between_says _ _ _ (holds_by c.is_between.ensures c.if-not-is_between.false)).1,
       c.if-m-gt4096.false,
-      whole_words c,
-      recorded c c.are_clean.ensures c.if-not-are_clean.false,
+      whole_words (goal.at.write_file-requires c).Start,
+      recorded (goal.at.write_file-requires c).Start c.are_clean.ensures c.if-not-are_clean.false,
       rw (sym c.file_size-size.ensures) c.if-out-size.false,
     )
 

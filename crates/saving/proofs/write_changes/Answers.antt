@@ -18,6 +18,7 @@ use Rattle.saving.specs.Puts.{bytes_of}
 use Rattle.saving.proofs.Acts.{each_none}
 use Rattle.saving.proofs.Put.{puts_none, puts_more, first_room, second_room}
 use Rattle.saving.proofs.write_changes.Goals as goal
+use Rattle.saving.proofs.write_changes.Goals.{Start}
 
 stays : (x y : Bool) → becomes x y y ≡ false
 stays true true = refl
@@ -29,10 +30,10 @@ none : (x : Bool) (t : List ℕ) (n : ℕ) → table_acts x t t n ≡ []
 unfolding table_acts row_acts link_acts
 none x t n = each_none (row_acts x t t n) (λ a. each_none (link_acts x t t a) (λ b. rw (stays x (link t a b))) n) n
 
-abbrev acts : tie.Start → Bool → List Act
+abbrev acts : Start → Bool → List Act
 acts c x = table_acts x c.args.old.now c.args.new.now c.args.n
 
-room : (c : tie.Start) → c.args.at + length (bytes_of (acts c false ++ acts c true)) ≤ length c.args.out.now
+room : (c : Start) → c.args.at + length (bytes_of (acts c false ++ acts c true)) ≤ length c.args.out.now
 unfolding change_acts
 room c = c.requires.3
 
@@ -47,15 +48,15 @@ returns-then-is_same c =
 pub write_table-shut-requires : goal.write_table-shut-requires
 write_table-shut-requires c =
     let p = c.requires in
-    (p.0, p.1, p.2, first_room c.args.out.now c.args.at (acts c false) (acts c true) (room c))
+    (p.0, p.1, p.2, first_room c.args.out.now c.args.at (acts (goal.at.write_table-shut-requires c).Start false) (acts (goal.at.write_table-shut-requires c).Start true) (room (goal.at.write_table-shut-requires c).Start))
 
 pub write_table-requires : goal.write_table-requires
 write_table-requires c =
     let p = c.requires in
-    (p.0, p.1, p.2, second_room c.args.out.now c.args.at (acts c false) (acts c true) (room c) c.write_table-shut.ensures)
+    (p.0, p.1, p.2, second_room c.args.out.now c.args.at (acts (goal.at.write_table-requires c).Start false) (acts (goal.at.write_table-requires c).Start true) (room (goal.at.write_table-requires c).Start) c.write_table-shut.ensures)
 
 pub returns : goal.returns
 unfolding change_acts
 returns c =
-    puts_more (first_room c.args.out.now c.args.at (acts c false) (acts c true) (room c)) c.write_table-shut.ensures {ys = acts c true}
+    puts_more (first_room c.args.out.now c.args.at (acts (goal.at.returns c).Start false) (acts (goal.at.returns c).Start true) (room (goal.at.returns c).Start)) c.write_table-shut.ensures {ys = acts (goal.at.returns c).Start true}
     c.write_table.ensures

@@ -11,23 +11,24 @@ use Rattle.saving.specs.File.{change_acts, pick_acts}
 use Rattle.saving.specs.Puts.{bytes_of}
 use Rattle.saving.proofs.Put.{puts_pick, puts_more, first_room, second_room}
 use Rattle.saving.proofs.write_pick.Goals as goal
+use Rattle.saving.proofs.write_pick.Goals.{Start}
 
-abbrev acts : tie.Start → List Act
+abbrev acts : Start → List Act
 acts c = change_acts c.args.n c.args.old.now c.args.new.now
 
-room : (c : tie.Start) → c.args.at + length (bytes_of (acts c ++ (pick ∷ []))) ≤ length c.args.out.now
+room : (c : Start) → c.args.at + length (bytes_of (acts c ++ (pick ∷ []))) ≤ length c.args.out.now
 unfolding pick_acts
 room c = c.requires.3
 
 pub write_changes-next-requires : goal.write_changes-next-requires
 write_changes-next-requires c =
     let p = c.requires in
-    (p.0, p.1, p.2, first_room c.args.out.now c.args.at (acts c) (pick ∷ []) (room c))
+    (p.0, p.1, p.2, first_room c.args.out.now c.args.at (acts (goal.at.write_changes-next-requires c).Start) (pick ∷ []) (room (goal.at.write_changes-next-requires c).Start))
 
 pub bounds-out-next : goal.bounds-out-next
 unfolding bytes_of
 bounds-out-next c =
-    let l = second_room c.args.out.now c.args.at (acts c) (pick ∷ []) (room c) c.write_changes-next.ensures in
+    let l = second_room c.args.out.now c.args.at (acts (goal.at.bounds-out-next c).Start) (pick ∷ []) (room (goal.at.bounds-out-next c).Start) c.write_changes-next.ensures in
     omega arith
 
 pub overflow_add-result : goal.overflow_add-result
@@ -36,5 +37,5 @@ overflow_add-result c = let l = slice-write-out c in omega arith
 pub returns : goal.returns
 unfolding pick_acts
 returns c =
-    puts_more (first_room c.args.out.now c.args.at (acts c) (pick ∷ []) (room c)) c.write_changes-next.ensures
+    puts_more (first_room c.args.out.now c.args.at (acts (goal.at.returns c).Start) (pick ∷ []) (room (goal.at.returns c).Start)) c.write_changes-next.ensures
     (puts_pick (slice-write-out c))
