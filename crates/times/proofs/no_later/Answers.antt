@@ -5,4 +5,4 @@ use Rattle.std.proofs.Common.{rules}
 use Rattle.times.proofs.no_later.Goals as goal
 
 pub returns : goal.returns
-returns c = no_later_is _ _ _ _ c.wrapping_sub_u32.ensures c.wrapping_sub_u32.type-inv c.ranges.y.fits
+returns c = no_later_is _ _ _ _ c.wrapping_sub_u32.ensures.value c.wrapping_sub_u32.type_inv c.ranges.y.fits

@@ -19,6 +19,4 @@ returns-in-3 c = rw c.in-3.is
 
 pub returns-in_default : goal.returns-in_default
 unfolding fresh
-returns-in_default c =
-    let e : c.args.measure ≡ 4 = omega (arith, c.in-1.rest.1, c.in-1.rest.0.1, c.in-1.rest.0.0.1)
-    in rw e
+returns-in_default c = let e : c.args.measure ≡ 4 = omega arith in rw e
