@@ -14,6 +14,6 @@ returns c =
     let s = c.args.t.now in
     let t = c.args.right.now in
     let first = c.arrive.ensures ∙ crossed_arrivals n s t in
-    let left = half_left (n * n) c.arrive.new.0 s c.requires.1.0 (sym (ap length first ∙ length-rows n (arrival n s t) n)) in
-    halves n (arrival n s t) (departure n (drop (n * n) s) (drop (n * n) t)) c.arrive.new.0 c.depart.new.0 s c.requires.1.0
+    let left = half_left (n * n) c.arrive.new.half s c.requires.1.0 (sym (ap length first ∙ length-rows n (arrival n s t) n)) in
+    halves n (arrival n s t) (departure n (drop (n * n) s) (drop (n * n) t)) c.arrive.new.half c.depart.new.half s c.requires.1.0
     first (c.depart.ensures ∙ simp (from_start, left))

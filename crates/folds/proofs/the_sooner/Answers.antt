@@ -5,9 +5,9 @@ use Rattle.std.proofs.Common.{rules}
 use Rattle.folds.proofs.the_sooner.Goals as goal
 
 pub returns-then-wrapping_sub_u32 : goal.returns-then-wrapping_sub_u32
-returns-then-wrapping_sub_u32 c = sooner_first _ _ _ _ (search rules) (search rules) c.wrapping_sub_u32.ensures c.wrapping_sub_u32-2.ensures
+returns-then-wrapping_sub_u32 c = sooner_first _ _ _ _ (search rules) (search rules) c.wrapping_sub_u32.ensures.value c.wrapping_sub_u32-2.ensures.value
     c.if-wrapping_sub_u32.true
 
 pub returns : goal.returns
-returns c = sooner_second _ _ _ _ (search rules) (search rules) c.wrapping_sub_u32.ensures c.wrapping_sub_u32-2.ensures
+returns c = sooner_second _ _ _ _ (search rules) (search rules) c.wrapping_sub_u32.ensures.value c.wrapping_sub_u32-2.ensures.value
     c.if-wrapping_sub_u32.false

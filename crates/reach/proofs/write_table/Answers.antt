@@ -56,7 +56,7 @@ loop-k-preserved c =
         (
           c.add_pick.auto.out ∙ c.loop-k.invariant.1.1.0,
           reach_turn
-              c.args.n hops01 c.loop-k.k c.args.words.now c.loop-k.out c.add_pick.new.0 _ c.loop-k.invariant.0
+              c.args.n hops01 c.loop-k.k c.args.words.now c.loop-k.out c.add_pick.new.out _ c.loop-k.invariant.0
               c.loop-k.invariant.1.1.1 (lent_part
               c.args.n c.loop-k.k c.args.words.now) c.add_pick.ensures,
         ),
