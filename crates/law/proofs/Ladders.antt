@@ -198,17 +198,17 @@ module _ (X : WindowTables) (law : Law X) where
       few false = z
 
   -- the start rises within a pick (measure 1)
-  raised_by : (x : Bool) (st : State) → Laddered X st → m_of st ≤ M → s_of st < m_of st
+  raised_by_laddered : (x : Bool) (st : State) → Laddered X st → m_of st ≤ M → s_of st < m_of st
       → (T x → b_of st + 1 < s_of st + 1) → ((T x → ⊥) → s_of st + 1 ≤ b_of st + 1)
       → Laddered X (raised_by K x (state (start_moved st.place 1) st.area))
   unfolding raised_by start_moved
-  raised_by true st c z h hi lo =
+  raised_by_laddered true st c z h hi lo =
       let f = c.frame in
       let st1 = f.start in
       let hi1 = hi tt in
       rebuilt_laddered (state (start_moved st.place 1) st.area) (record { start = omega arith; top = f.top; room = f.room; list = f.list }) z
       (omega arith) (λ i x y. c.owns i (omega arith) y)
-  raised_by false st c z h hi lo =
+  raised_by_laddered false st c z h hi lo =
       let f = c.frame in
       let st1 = f.start in
       record {
@@ -226,7 +226,7 @@ module _ (X : WindowTables) (law : Law X) where
   raised_laddered st c z h =
       let b = b_of st in
       let s = s_of st + 1 in
-      raised_by (ltb (b + 1) s) st c z h (λ t. ltb→lt (b + 1) s t) (λ t. not_lt (b + 1) s t)
+      raised_by_laddered (ltb (b + 1) s) st c z h (λ t. ltb→lt (b + 1) s t) (λ t. not_lt (b + 1) s t)
 
   -- ---- a test
 

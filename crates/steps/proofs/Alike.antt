@@ -272,18 +272,18 @@ module _ (K : Kit) (wide : Wide K) where
       }
 
   -- the left ladder built at a rise, or not
-  raised_by : (x : Bool) (p : Place) {a b : List ℕ} → Level K p a b → p.window.taken.0 ≤ p.settings.limit
+  raised_by_twin : (x : Bool) (p : Place) {a b : List ℕ} → Level K p a b → p.window.taken.0 ≤ p.settings.limit
       → Twin K (raised_by K x (state (start_moved p 1) a)) (raised_by K x (state (start_moved p 1) b))
   unfolding raised_by rebuilt charged boundary_moved start_moved
-  raised_by true p s top =
+  raised_by_twin true p s top =
       record { place = refl; level = record { kit = s.kit; area = rebuilt_like K wide s.area top (p.window.start.0 + 1) (omega arith) } }
-  raised_by false p s top = record { place = refl; level = record { kit = s.kit; area = s.area } }
+  raised_by_twin false p s top = record { place = refl; level = record { kit = s.kit; area = s.area } }
 
   -- a rise
   raised_twin : (p : Place) {a b : List ℕ} → Level K p a b → p.window.taken.0 ≤ p.settings.limit
       → Twin K (raised K (state p a)) (raised K (state p b))
   unfolding raised
-  raised_twin p s top = raised_by (far (start_moved p 1)) p s top
+  raised_twin p s top = raised_by_twin (far (start_moved p 1)) p s top
 
   -- and its test
   again_twin : (p : Place) {a b : List ℕ} → Level K p a b → p.window.start.0 < p.window.taken.0 → p.window.taken.0 ≤ p.settings.limit

@@ -289,24 +289,24 @@ module _ (K : Kit) where
         then K st (written K k w st) (extended K (written K k w st)) _ _ _ f (after-written k w st (frame_room K st (written K k w st) _ f rm) low top)
         (λ j o. o.1) (λ j o. o.0)
 
-    raised_by : (x : Bool) (st : State) → Room K st → st.place.window.taken.0 ≤ st.place.settings.limit →
+    raised_by_frame : (x : Bool) (st : State) → Room K st → st.place.window.taken.0 ≤ st.place.settings.limit →
         (T x → st.place.window.boundary.0 + 1 < st.place.window.start.0 + 1)
         → Frame K st (raised_by K x (state (start_moved st.place 1) st.area)) (Aside (max (st.place.window.start.0 + 1)
         (st.place.window.boundary.0 + 2)) st.place.window.taken.0 st.place.settings.limit)
     unfolding raised_by start_moved
-    raised_by true st rm top hi =
+    raised_by_frame true st rm top hi =
         let q = state (start_moved st.place 1) st.area in
         let h = hi tt in
         let f = rebuilt_frame q rm (omega arith) top in
         record { settings = f.settings; parts = λ j l o. f.parts j l (aside_from o (omega arith)); size = f.size; beyond = f.beyond }
-    raised_by false st rm top hi = record { settings = refl; parts = λ j l o. refl; size = refl; beyond = refl }
+    raised_by_frame false st rm top hi = record { settings = refl; parts = λ j l o. refl; size = refl; beyond = refl }
 
     -- s rises: parts s to m - 1 where it then exceeds b + 1, and part limit + 1
     pub raised_frame : (st : State) → Room K st → st.place.window.taken.0 ≤ st.place.settings.limit
         → Frame K st (raised K st) (Aside (max (st.place.window.start.0 + 1) (st.place.window.boundary.0 + 2)) st.place.window.taken.0
         st.place.settings.limit)
     unfolding raised start_moved
-    raised_frame st rm top = raised_by (ltb (st.place.window.boundary.0 + 1) (st.place.window.start.0 + 1)) st rm top (λ t. ltb→lt
+    raised_frame st rm top = raised_by_frame (ltb (st.place.window.boundary.0 + 1) (st.place.window.start.0 + 1)) st rm top (λ t. ltb→lt
         (st.place.window.boundary.0 + 1) (st.place.window.start.0 + 1) t)
 
     -- the tests of one pick: `from` is at most s + 1, or at most b + 2

@@ -21,5 +21,5 @@ unfolding compose_at
 returns c =
     let K = kit c.args.measure c.args.n in
     c.compose_with.ensures
-    ∙ ap (λ (c : List ℕ). put_table K c.args.area.now c.args.d (join_of c.args.measure c.args.n (table_at K c.args.area.now c.args.d) c))
+    ∙ ap (λ (t : List ℕ). put_table K c.args.area.now c.args.d (join_of c.args.measure c.args.n (table_at K c.args.area.now c.args.d) t))
     (c.take_table.ensures ∙ table_lent K _ _ c.width-e.ensures (sym (size_links _ _ c.requires.1)))

@@ -30,8 +30,8 @@ loop-i-preserved c =
     let k = c.compose_at.auto in (
       search rules,
       search rules,
-      k.1.0 ∙ v.2,
-      k.1.1.0 ∙ v.3,
+      k.area ∙ v.2,
+      k.right ∙ v.3,
       ladder_turn _ _ _ c.loop-i.i (omega arith) (omega arith) v.4
           c.compose_at.ensures,
     )

@@ -26,9 +26,9 @@ loop-k-preserved c =
     let v = c.loop-k.invariant in
     let e = c.again-q.ensures in
     let k = c.again-q.auto in (
-      climb_turn v.0 c.loop-k-test.true c.if-q.false e k.1.0,
-      grown_lends (again _) _ _ e (again_grown _ _) k.1.1.0 v.1,
-      k.1.1.0 ∙ v.2,
+      climb_turn v.0 c.loop-k-test.true c.if-q.false e k.area,
+      grown_lends (again _) _ _ e (again_grown _ _) k.right v.1,
+      k.right ∙ v.2,
     )
 
 pub returns : goal.returns
