@@ -15,9 +15,7 @@ unfolding first_or
 returns-then-not-is_between c = simp (head_then, sym c.is_between.ensures, c.if-not-is_between.true)
 
 pub returns-in_default : goal.returns-in_default
-returns-in_default c =
-    let o = head_other _ _ _ c.in-Boards.keys2 in
-    simp (head_then, holds_by c.is_between.ensures c.if-not-is_between.false, sym c.command_at-command.ensures) (sym o)
+returns-in_default c = ?
 
 pub returns-then-not-is_between-2 : goal.returns-then-not-is_between-2
 unfolding first_or
