@@ -10,9 +10,6 @@ use lib.ListN.{length, get_or}
 use Rattle.model.specs.declared.Refusal.{Refusal}
 use Rattle.model.specs.declared.Refusal.TheVariants as cause
 use Rattle.model.specs.Causes.{between, RefusalCauses, first_or}
-use denote.Enum.Declared.{tag_of}
-use types.Run.{OneOf, miss}
-use Rattle.commands.specs.contracts.Command as command
 use Rattle.commands.specs.declared.Command.{Command}
 use Rattle.commands.specs.declared.Command.TheVariants.{Boards, Later, Not}
 use Rattle.commands.specs.declared.Item.{Item}
@@ -20,16 +17,16 @@ use Rattle.commands.specs.Commands.{arity_of, operands_of, unreadable, spelled_a
 use Rattle.commands.specs.Causes.{boards_causes, later_causes, head_at, next}
 
 abbrev pub NotBoards : Command → Type 0
-NotBoards x = OneOf (1 ∷ 2 ∷ []) (tag_of command.the_type x)
+NotBoards x = (n : ℕ) → x ≡ Boards n → ⊥
 
 pub not_boards : (n : ℕ) → NotBoards (Boards n) → ⊥
-not_boards n k = miss (1 ∷ 2 ∷ []) 0 tt k
+not_boards n k = k n refl
 
 abbrev pub NotLater : Command → Type 0
-NotLater x = OneOf (0 ∷ 2 ∷ []) (tag_of command.the_type x)
+NotLater x = (i : Item) → x ≡ Later i → ⊥
 
 pub not-later : (i : Item) → NotLater (Later i) → ⊥
-not-later i k = miss (0 ∷ 2 ∷ []) 1 tt k
+not-later i k = k i refl
 
 -- ---- one list of causes after the other: what a command that was taken apart still has to fit
 

@@ -1,12 +1,10 @@
 -- What the other case of a `let .. else` and the `_` arm of a `match` say: the command has none of the constructors named before.
 -- Assumes nothing.
 use mathlib.Core.Path.{◌≡◌, refl}
-use mathlib.Core.List.{List, [], ◌∷◌}
+use mathlib.Core.List.{List}
 use Prim.Native.Nat.{ℕ}
-use denote.Enum.Declared.{tag_of}
-use types.Run.{OneOf, miss}
+use Rattle.model.specs.declared.Refusal.{Refusal}
 use Rattle.model.specs.declared.Refusal.TheVariants as cause
-use Rattle.commands.specs.contracts.Command as command
 use Rattle.commands.proofs.Others.{NotBoards, not_boards, NotLater, not-later}
 use Rattle.commands.specs.declared.Command.{Command}
 use Rattle.commands.specs.declared.Command.TheVariants.{Boards, Later, Not}
@@ -25,7 +23,7 @@ follow_other more n at picks links (Later i) k = absurd (not-later i k)
 follow_other more n at picks links (Not r) k = refl
 
 -- not `Not`
-pub refusal_other : (x : Command) → OneOf (0 ∷ 1 ∷ []) (tag_of command.the_type x) → refusal_in x ≡ cause.Command
+pub refusal_other : (x : Command) → ((r : Refusal) → x ≡ Not r → ⊥) → refusal_in x ≡ cause.Command
 refusal_other (Boards m) k = refl
 refusal_other (Later i) k = refl
-refusal_other (Not r) k = absurd (miss (0 ∷ 1 ∷ []) 2 tt k)
+refusal_other (Not r) k = absurd (k r refl)

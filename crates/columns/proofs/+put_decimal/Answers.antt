@@ -1,7 +1,6 @@
 -- `columns::put_decimal` meets its contract.
 -- Assumes nothing.
 use mathlib.Core.Path.{ap}
-use Prim.Native.Nat.{ℕ, ◌<◌}
 use native.Mathlib.Omega.{arith}
 use lib.ListN.{length}
 use Rattle.columns.proofs.Text.{tenth, decimal_small, decimal_step, decimal-step-length, put_then}

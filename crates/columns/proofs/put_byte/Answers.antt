@@ -2,7 +2,6 @@
 -- Assumes nothing.
 use mathlib.Core.Path.{refl}
 use Rattle.lists.proofs.Splice.{splice-set}
-use Rattle.std.proofs.Common.{rules}
 use Rattle.columns.proofs.put_byte.Goals as goal
 
 pub returns : goal.returns

@@ -5,7 +5,6 @@ use lib.ListN.{length}
 use native.Mathlib.Omega.{arith}
 use Rattle.columns.specs.Text.{line5}
 use Rattle.columns.proofs.Text.{put_then}
-use Rattle.std.proofs.Common.{rules}
 use Rattle.columns.proofs.put_line.Goals as goal
 
 pub returns : goal.returns

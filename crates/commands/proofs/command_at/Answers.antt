@@ -3,7 +3,6 @@
 -- Assumes nothing.
 use mathlib.Core.Path.{sym, ◌∙◌}
 use borrow.Author.Tests.{lt-ltb, le-ltb}
-use Rattle.std.proofs.Common.{rules}
 use Rattle.model.specs.Causes.{first_or}
 use Rattle.commands.specs.Commands.{command_at}
 use Rattle.commands.proofs.Others.{stopped_here}

@@ -1,7 +1,6 @@
 -- `commands::is_unchanged` meets its contract.
 -- Assumes nothing.
 use Rattle.model.specs.Recording.{link}
-use Rattle.std.proofs.Common.{rules}
 use Rattle.commands.proofs.is_unchanged.Goals as goal
 
 pub returns-then-opens : goal.returns-then-opens

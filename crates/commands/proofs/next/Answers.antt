@@ -3,15 +3,13 @@
 -- Assumes nothing.
 use mathlib.Core.Path.{sym, ◌∙◌}
 use borrow.Author.Tests.{le-leb, lt-leb}
-use Rattle.commands.proofs.Admit.{in_links}
 use Rattle.commands.proofs.Others.{next_then, next_other}
 use Rattle.model.specs.Causes.{first_or}
-use Rattle.std.proofs.Common.{rules}
 use Rattle.commands.proofs.next.Goals as goal
 
 pub returns-in_default : goal.returns-in_default
 unfolding first_or
-returns-in_default c = simp (next_then, sym c.command_at-command.ensures) (sym (next_other _ _ _ _ _ c.in-Later.keys2))
+returns-in_default c = simp (next_then, sym c.command_at-command.ensures) (sym (next_other _ _ _ _ _ c.in_default.not-Later))
 
 pub returns-then-no_link : goal.returns-then-no_link
 unfolding first_or
@@ -23,10 +21,6 @@ returns-then-no_link c =
       sym c.no_link.ensures
           ∙ c.if-no_link.true,
     )
-
-pub is_unchanged-requires : goal.is_unchanged-requires
-is_unchanged-requires c = let pre = c.requires in
-    in_links _ _ _ _ (sym c.no_link.ensures ∙ c.if-no_link.false) pre.0 pre.1
 
 pub returns-then-is_unchanged : goal.returns-then-is_unchanged
 unfolding first_or

@@ -1,14 +1,12 @@
 -- `commands::operands_of` meets its contract: what is left of the table gives the same answer as the whole.
 -- Assumes nothing.
 -- what a read past the end would give
-use mathlib.Core.Path.{◌≡◌, refl, sym, ◌∙◌}
-use Prim.Native.Nat.{◌-◌, ◌≤◌}
+use mathlib.Core.Path.{refl, sym, ◌∙◌}
 use native.Mathlib.Omega.{arith}
 use Rattle.std.proofs.Common.{rules}
-use lib.ListN.{drop}
 use Rattle.commands.proofs.Table.{lookup_hit, lookup_miss, lookup_end}
 use Rattle.commands.specs.declared.Shape.{Shape}
-use Rattle.commands.specs.Commands.{shapes, lookup, arity_of}
+use Rattle.commands.specs.Commands.{shapes, arity_of}
 use Rattle.commands.proofs.operands_of.Goals as goal
 
 abbrev none : Shape

@@ -1,13 +1,9 @@
 -- `commands::operands_of` meets its contract: what is left of the table gives the same answer as the whole.
 -- Assumes nothing.
 -- what a read past the end would give
-use mathlib.Core.Path.{◌≡◌, refl, sym, ◌∙◌}
+use mathlib.Core.Path.{◌≡◌}
 use Prim.Native.Nat.{◌-◌, ◌≤◌}
-use native.Mathlib.Omega.{arith}
-use Rattle.std.proofs.Common.{rules}
 use lib.ListN.{drop}
-use Rattle.commands.proofs.Table.{lookup_hit, lookup_miss, lookup_end}
-use Rattle.commands.specs.declared.Shape.{Shape}
 use Rattle.commands.specs.Commands.{shapes, lookup, arity_of}
 use Rattle.commands.proofs.operands_of.Given as goal
 

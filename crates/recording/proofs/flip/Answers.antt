@@ -3,7 +3,6 @@
 use native.Mathlib.Nat.{one-mul, mod-eq_of_lt}
 use lib.Pow.{pow-lt}
 use Rattle.recording.specs.Format.{flipped}
-use Rattle.std.proofs.Common.{rules}
 use Rattle.recording.proofs.flip.Goals as goal
 
 pub returns : goal.returns

@@ -11,13 +11,12 @@ use Rattle.commands.proofs.Admit.{headed}
 use Rattle.recording.specs.Format.{after_head, recording_at}
 use Rattle.recording.proofs.Others.{after_head_other}
 use Rattle.recording.proofs.Written.{nothing_kept, refused_over}
-use Rattle.std.proofs.Common.{rules}
 use Rattle.recording.proofs.go_over.Goals as goal
 
 pub returns-in_default : goal.returns-in_default
 unfolding recording_at
 returns-in_default c = let w = c.args.writes in
-    let e = ap (after_head _ _ _) (sym c.head_at-head.ensures) ∙ after_head_other _ _ _ c.head_at-head.result c.in-Boards.keys2 in
+    let e = ap (after_head _ _ _) (sym c.head_at-head.ensures) ∙ after_head_other _ _ _ c.head_at-head.result c.in_default.not-Boards in
     rw c.refusal_in.ensures (refused_over w (splice 0 0 [] c.args.out.now) _ _ c.requires e (nothing_kept w _))
 
 pub overflow_add-start : goal.overflow_add-start

@@ -1,14 +1,9 @@
 -- `recording::go_over_commands` meets its contract. The invariant is `Underway`: its laws answer the other case of the `let .. else` and each arm.
 -- In each answer i is the arm of the `match`, m the place behind the `let .. else`, t the one behind the call of `next`, and l the loop's head.
 -- Assumes nothing.
-use mathlib.Core.Path.{◌≡◌, refl, sym, ◌∙◌}
-use mathlib.Core.List.{[]}
-use Prim.Native.Nat.{◌-◌}
+use mathlib.Core.Path.{refl, sym, ◌∙◌}
 use native.Mathlib.Omega.{arith}
-use lib.ListN.{length}
-use Rattle.std.proofs.Common.{rules}
-use Rattle.recording.specs.Format.{commands}
-use Rattle.recording.proofs.Written.{Underway, has_room, underway_start, underway_able, underway_within, underway_link, underway_pick}
+use Rattle.recording.proofs.Written.{has_room, underway_start, underway_able, underway_within, underway_link, underway_pick}
 use Rattle.recording.proofs.Written.{underway_end, underway_other, underway_stop}
 use Rattle.recording.proofs.go_over_commands.Goals as goal
 
@@ -17,7 +12,7 @@ loop-at-init c = (c.requires.0, refl, underway_start _ _ _ _ _ _ _)
 
 pub returns-in_default : goal.returns-in_default
 returns-in_default c = let o = underway_other c.loop-at.invariant.2 c.next-command.ensures c.loop-at-test.true c.requires.3 in
-    rw c.refusal_in.ensures (o c.in-Later.keys2)
+    rw c.refusal_in.ensures (o c.in_default.not-Later)
 
 pub flip-requires : goal.flip-requires
 flip-requires c = underway_able c.loop-at.invariant.2 c.next-command.ensures c.loop-at-test.true c.in-Later.is c.in-Link.is

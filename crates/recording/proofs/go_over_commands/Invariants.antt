@@ -1,15 +1,12 @@
 -- `recording::go_over_commands` meets its contract. The invariant is `Underway`: its laws answer the other case of the `let .. else` and each arm.
 -- In each answer i is the arm of the `match`, m the place behind the `let .. else`, t the one behind the call of `next`, and l the loop's head.
 -- Assumes nothing.
-use mathlib.Core.Path.{◌≡◌, refl, sym, ◌∙◌}
+use mathlib.Core.Path.{◌≡◌}
 use mathlib.Core.List.{[]}
 use Prim.Native.Nat.{◌-◌}
-use native.Mathlib.Omega.{arith}
 use lib.ListN.{length}
-use Rattle.std.proofs.Common.{rules}
 use Rattle.recording.specs.Format.{commands}
-use Rattle.recording.proofs.Written.{Underway, has_room, underway_start, underway_able, underway_within, underway_link, underway_pick}
-use Rattle.recording.proofs.Written.{underway_end, underway_other, underway_stop}
+use Rattle.recording.proofs.Written.{Underway}
 use Rattle.recording.proofs.go_over_commands.Given as goal
 
 abbrev pub invariant-loop-at : goal.invariant-loop-at

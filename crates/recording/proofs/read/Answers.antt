@@ -1,27 +1,18 @@
 -- `recording::read` meets its contract: going over the file first leaves the output as it was, and `answered` reads off its answer what writing requires.
 -- Assumes nothing.
 use mathlib.Core.Path.{◌∙◌}
-use mathlib.Core.Bool.{false≢true}
 use borrow.Author.Tests.{lt-ltb, le-ltb}
 use Rattle.model.specs.Causes.{first_or}
 use Rattle.recording.specs.Format.{read_file}
 use Rattle.recording.specs.Answers.{read_says, read_leaves}
 use Rattle.recording.proofs.Sound.{answered, answered_not}
-use Rattle.std.proofs.Common.{rules}
 use Rattle.recording.proofs.read.Goals as goal
-
-pub go_over-requires : goal.go_over-requires
-go_over-requires c = λ t. absurd (false≢true t)
 
 pub returns-then-end-bytes : goal.returns-then-end-bytes
 unfolding first_or read_file read_says read_leaves
 returns-then-end-bytes c = let p = c.go_over.ensures in
     let x = answered p c.in-Ended.is in
     (simp (x.read, lt-ltb _ _ c.if-end-bytes.true), p.leaves ∙ simp (x.read, lt-ltb _ _ c.if-end-bytes.true))
-
-pub go_over-requires-in-Ended : goal.go_over-requires-in-Ended
-go_over-requires-in-Ended c = let p = c.go_over.ensures in
-    λ t. rw (p.leaves, (answered p c.in-Ended.is).read)
 
 pub returns-else-end-bytes : goal.returns-else-end-bytes
 unfolding first_or read_file read_says read_leaves

