@@ -24,11 +24,11 @@ use Rattle.verdicts.specs.Verdicts.{needed, lent_causes, open_causes, pick_cause
 use Rattle.verdicts.specs.Fit.{Clears, Opens, Admitted, Runs}
 
 -- a check passed or failed, as code finds it
-pub passed_by : {x y : Bool} → x ≡ y → not x ≡ false → not y ≡ false
-passed_by e f = ap not (sym e) ∙ f
+pub passed_by : {x y : Bool} → x ≡ y → x ≡ true → not y ≡ false
+passed_by e f = ap not (sym e ∙ f)
 
-pub failed_by : {x y : Bool} → x ≡ y → not x ≡ true → not y ≡ true
-failed_by e f = ap not (sym e) ∙ f
+pub failed_by : {x y : Bool} → x ≡ y → x ≡ false → not y ≡ true
+failed_by e f = ap not (sym e ∙ f)
 
 -- the words that an area needs are few enough to be counted
 pub needed_most : (measure n limit e : ℕ) → n ≤ 32 → limit ≤ 4096 → e ≡ width_of measure n → (limit + 4) * e ≤ 8396800

@@ -1,5 +1,6 @@
 -- `verdicts::open_verdict` meets its contract: the causes in their order.
 -- Assumes nothing.
+use mathlib.Core.Path.{sym, ◌∙◌}
 use native.Mathlib.Omega.{arith}
 use borrow.Author.Tests.{eq-eqb, ne_eqb}
 use Rattle.verdicts.specs.Verdicts.{open_verdict}
@@ -26,9 +27,8 @@ returns-then-not-is_between-3 c =
 
 pub room_verdict-requires : goal.room_verdict-requires
 room_verdict-requires c = (
-  (between_says _ _ _ (holds_by c.is_between.ensures
-      c.if-not-is_between.false)).1,
-  (between_says _ _ _ (holds_by c.is_between-3.ensures c.if-not-is_between-3.false)).1,
+  (between_says _ _ _ (sym c.is_between.ensures ∙ c.if-not-is_between.false)).1,
+  (between_says _ _ _ (sym c.is_between-3.ensures ∙ c.if-not-is_between-3.false)).1,
 )
 
 pub returns-then-measure-ne2 : goal.returns-then-measure-ne2
@@ -49,8 +49,7 @@ returns-then-footprint-n c =
 
 pub is_clean-requires : goal.is_clean-requires
 is_clean-requires c = (
-  (between_says _ _ _ (holds_by c.is_between.ensures
-      c.if-not-is_between.false)).1,
+  (between_says _ _ _ (sym c.is_between.ensures ∙ c.if-not-is_between.false)).1,
   omega (arith, c.if-footprint-n.false),
 )
 
@@ -70,10 +69,8 @@ returns-then-not-is_clean c =
 
 pub room_verdict-requires-2 : goal.room_verdict-requires-2
 room_verdict-requires-2 c = (
-  (between_says _ _ _ (holds_by c.is_between.ensures
-      c.if-not-is_between.false)).1,
-  (between_says _ _ _ (holds_by
-      c.is_between-3.ensures c.if-not-is_between-3.false)).1,
+  (between_says _ _ _ (sym c.is_between.ensures ∙ c.if-not-is_between.false)).1,
+  (between_says _ _ _ (sym c.is_between-3.ensures ∙ c.if-not-is_between-3.false)).1,
 )
 
 pub returns : goal.returns

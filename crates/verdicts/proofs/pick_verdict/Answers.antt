@@ -27,7 +27,7 @@ returns-then-words-n c =
 
 pub is_clean-requires : goal.is_clean-requires
 is_clean-requires c =
-    let s = sound_says _ (holds_by c.is_sound.ensures c.if-not-is_sound.false) in (s.boards_high, omega (arith, c.if-words-n.false))
+    let s = sound_says _ (sym c.is_sound.ensures ∙ c.if-not-is_sound.false) in (s.boards_high, omega (arith, c.if-words-n.false))
 
 pub returns-then-not-is_clean : goal.returns-then-not-is_clean
 unfolding pick_verdict
@@ -38,7 +38,7 @@ returns-then-not-is_clean c =
 
 pub is_short-requires : goal.is_short-requires
 is_short-requires c =
-    let s = sound_says _ (holds_by c.is_sound.ensures c.if-not-is_sound.false) in (s.boards_high, s.limit_high)
+    let s = sound_says _ (sym c.is_sound.ensures ∙ c.if-not-is_sound.false) in (s.boards_high, s.limit_high)
 
 pub returns-then-is_short : goal.returns-then-is_short
 unfolding pick_verdict
@@ -59,8 +59,7 @@ returns-then-measure-ne2 c =
 
 pub is_listed-requires : goal.is_listed-requires
 is_listed-requires c =
-    let s = sound_says _ (holds_by c.is_sound.ensures
-    c.if-not-is_sound.false) in (
+    let s = sound_says _ (sym c.is_sound.ensures ∙ c.if-not-is_sound.false) in (
       s.boards_high,
       s.limit_high,
       c.if-measure-ne2.false,

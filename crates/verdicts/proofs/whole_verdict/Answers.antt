@@ -20,18 +20,18 @@ returns-then-not-is_between-2 c =
 
 pub lent_verdict-requires : goal.lent_verdict-requires
 lent_verdict-requires c =
-    let b = (between_says _ _ _ (holds_by c.is_between.ensures c.if-not-is_between.false)).0 in omega arith
+    let b = (between_says _ _ _ (sym c.is_between.ensures ∙ c.if-not-is_between.false)).0 in omega arith
 
 pub nonzero_div-words : goal.nonzero_div-words
 nonzero_div-words c =
-    let b = (between_says _ _ _ (holds_by c.is_between.ensures c.if-not-is_between.false)).0 in omega arith
+    let b = (between_says _ _ _ (sym c.is_between.ensures ∙ c.if-not-is_between.false)).0 in omega arith
 
 pub run_verdict-requires : goal.run_verdict-requires
 run_verdict-requires c =
     let n = c.args.n in
     let w = c.args.words.now in
     let l = lent_sound n w ((none_holds (lent_causes n w) tt).0 (sym c.lent_verdict.ensures ∙ ap verdict_says c.in-Clear.is)) in
-    ((between_says _ _ _ (holds_by c.is_between.ensures c.if-not-is_between.false)).1, l.2, omega (arith, l.0))
+    ((between_says _ _ _ (sym c.is_between.ensures ∙ c.if-not-is_between.false)).1, l.2, omega (arith, l.0))
 
 pub returns-in-Clear : goal.returns-in-Clear
 unfolding whole_verdict
