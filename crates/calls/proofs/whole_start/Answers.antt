@@ -17,7 +17,7 @@ zero_part-requires c =
 pub returns-then-measure-ne2 : goal.returns-then-measure-ne2
 returns-then-measure-ne2 c =
     start_other c.args.n c.args.measure c.args.m _ _ c.requires c.if-measure-ne2.true
-    c.«open».ensures c.zero_part.ensures
+    c.open-p.ensures c.zero_part.ensures
 
 pub overflow_mul-at : goal.overflow_mul-at
 overflow_mul-at c =
@@ -44,11 +44,11 @@ make_footprint-requires c =
       c.requires.some_picks,
       c.requires.cap,
       omega (arith, c.requires.words),
-      ap (λ (x : Place). x.counts.compositions.0) c.«open».ensures,
+      ap (λ (x : Place). x.counts.compositions.0) c.open-p.ensures,
     )
 
 pub returns : goal.returns
 returns c =
-    start_footprint c.args.n c.args.measure c.args.m _ _ c.requires c.if-measure-ne2.false c.width-e.ensures c.«open».ensures
+    start_footprint c.args.n c.args.measure c.args.m _ _ c.requires c.if-measure-ne2.false c.width-e.ensures c.open-p.ensures
     c.make_footprint.ensures
     (written-part _ _ _ refl)
