@@ -35,7 +35,7 @@ use Rattle.law.proofs.MaxWalk.{fails_greatest}
 use Rattle.law.proofs.Walks.{course_agree}
 use Rattle.law.proofs.Whole.{whole_recorded, whole_fits, whole_course, whole}
 use Rattle.law.proofs.Longer.{is_smallest, passes_monotone}
-use Rattle.law.proofs.Held.{not-not, held_every, held_after}
+use Rattle.law.proofs.Held.{not-not, held_every, held_after_lem}
 
 -- ---- what the invariant says of the decision
 
@@ -126,7 +126,7 @@ module _ (n measure : ℕ) (w : List ℕ) (k : ℕ) (a : List ℕ) where
       let x = list_cost measure m in
       let l = length_lent n w m in
       let st = held_at c x k m in
-      let h = held_after c x k s.1 m (omega arith) in
+      let h = held_after_lem c x k s.1 m (omega arith) in
       let few = h.few in
       let P = Passes measure n (unions n w m) (lent_recording n w) in
       let report : decide_says n measure w k a ≡ decided_at st.place =

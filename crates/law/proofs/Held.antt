@@ -179,5 +179,5 @@ module _ (c : Course) (x k : ℕ) (some_picks : 1 ≤ k) where
   held_all zero h = record { invariant = opened_held; settings = refl; few = le_refl 0; all = λ nf. refl }
   held_all (suc j) h = held_on j (held_at c x k j) h (held_all j (omega arith))
 
-pub held_after : HeldClaim
-held_after = held_all
+pub held_after_lem : HeldClaim
+held_after_lem = held_all

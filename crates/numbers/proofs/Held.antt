@@ -30,7 +30,7 @@ use Rattle.law.specs.Course.{Course, kit_in, tables}
 use Rattle.law.specs.Held.{held_from, held_at}
 use Rattle.law.proofs.Ladders.{entered_by}
 use Rattle.law.proofs.Walks.{course_law, own_at}
-use Rattle.law.proofs.Held.{held_after}
+use Rattle.law.proofs.Held.{held_after_lem}
 use Rattle.law.proofs.Whole.{whole_course}
 use Rattle.law.proofs.Decisions.{held_walks}
 use Rattle.numbers.specs.Walk.{WalkNumbers, numbers_at, one_more, take_in, enter, test}
@@ -82,7 +82,7 @@ module _ (c : Course) (pass : ℕ → ℕ → Bool) (agrees : PassAgrees (tables
       → numbers_of (held_step (tried (kit_in c)) (kit_in c) k (pick_at picks (suc j)) (held_at c x k j)).place ≡ hold_pick pass k (numbers_of (held_at c x k j).place)
   pick_held j h f =
       let st = held_at c x k j in
-      let a = held_after c x k some j (omega arith) in
+      let a = held_after_lem c x k some j (omega arith) in
       let m = a.all f in
       let l = limit-of a.settings in
       let b = few in
