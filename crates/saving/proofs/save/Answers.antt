@@ -5,7 +5,6 @@ use mathlib.Core.Bool.{Bool, true, not}
 use Prim.Native.Nat.{◌*◌, ◌/◌, ◌≤◌}
 use native.Mathlib.Nat.{div-add-mod', le_refl}
 use native.Mathlib.Omega.{arith}
-use Rattle.std.proofs.Common.{rules}
 use borrow.Author.Tests.{eq-eqb, ne_eqb, lt-ltb, le-ltb}
 use lib.ListN.{length}
 use Rattle.model.specs.declared.Refusal.TheVariants as cause

@@ -1,13 +1,9 @@
 -- `saving::write_changes` meets its contract: two groups of commands, one behind the other; where the words are as they were, none.
 -- Assumes nothing.
--- no command where no link changes
--- the commands of the links that shut, or open
 use mathlib.Core.Path.{◌≡◌, refl, sym, ◌∙◌}
 use mathlib.Core.Bool.{Bool, true, false}
 use mathlib.Core.List.{List, [], ◌++◌}
 use Prim.Native.Nat.{ℕ, ◌+◌, ◌≤◌}
-use native.Mathlib.Omega.{arith}
-use Rattle.std.proofs.Common.{rules}
 use lib.ListN.{length}
 use Rattle.model.specs.Recording.{link}
 use Rattle.model.proofs.Logic.{tr}
@@ -26,10 +22,12 @@ stays true false = refl
 stays false true = refl
 stays false false = refl
 
+-- no command where no link changes
 none : (x : Bool) (t : List ℕ) (n : ℕ) → table_acts x t t n ≡ []
 unfolding table_acts row_acts link_acts
 none x t n = each_none (row_acts x t t n) (λ a. each_none (link_acts x t t a) (λ b. rw (stays x (link t a b))) n) n
 
+-- the commands of the links that shut, or open
 abbrev acts : Start → Bool → List Act
 acts c x = table_acts x c.args.old.now c.args.new.now c.args.n
 

@@ -3,7 +3,6 @@
 use mathlib.Core.List.{List, [], ◌∷◌, ◌++◌}
 use Prim.Native.Nat.{◌+◌, ◌≤◌, ◌<◌}
 use native.Mathlib.Omega.{arith}
-use Rattle.std.proofs.Common.{rules}
 use lib.ListN.{length}
 use Rattle.recording.specs.Grammar.{Act, pick}
 use Rattle.saving.specs.File.{change_acts, pick_acts}
