@@ -46,15 +46,19 @@ returns-then-is_same c =
 pub write_table-shut-requires : goal.write_table-shut-requires
 write_table-shut-requires c =
     let p = c.requires in
-    (p.0, p.1, p.2, first_room c.args.out.now c.args.at (acts (goal.at.write_table-shut-requires c).Start false) (acts (goal.at.write_table-shut-requires c).Start true) (room (goal.at.write_table-shut-requires c).Start))
+    let s = (goal.at.write_table-shut-requires c).Start in
+    (p.0, p.1, p.2, first_room c.args.out.now c.args.at (acts s false) (acts s true) (room s))
 
 pub write_table-requires : goal.write_table-requires
 write_table-requires c =
     let p = c.requires in
-    (p.0, p.1, p.2, second_room c.args.out.now c.args.at (acts (goal.at.write_table-requires c).Start false) (acts (goal.at.write_table-requires c).Start true) (room (goal.at.write_table-requires c).Start) c.write_table-shut.ensures)
+    let s = (goal.at.write_table-requires c).Start in
+    (p.0, p.1, p.2, second_room c.args.out.now c.args.at (acts s false) (acts s true) (room s) c.write_table-shut.ensures)
 
 pub returns : goal.returns
 unfolding change_acts
 returns c =
-    puts_more (first_room c.args.out.now c.args.at (acts (goal.at.returns c).Start false) (acts (goal.at.returns c).Start true) (room (goal.at.returns c).Start)) c.write_table-shut.ensures {ys = acts (goal.at.returns c).Start true}
+    let s = (goal.at.returns c).Start in
+    puts_more (first_room c.args.out.now c.args.at (acts s false) (acts s true) (room s)) c.write_table-shut.ensures
+    {ys = acts s true}
     c.write_table.ensures
