@@ -30,7 +30,8 @@ answers-A = refl
 
 -- ten words of output, of which the last two stay
 pub writes-A : read_leaves 4 file_a (replicate 10 7) ≡ 2 ∷ 0 ∷ 0 ∷ 1 ∷ 2 ∷ 0 ∷ 0 ∷ 1 ∷ 7 ∷ 7 ∷ []
-unfolding file_a lookup arity_of first_or command_of command_at zeros bit link flipped head_at between next commands recording_at read_file words splice read_leaves
+unfolding file_a lookup arity_of first_or command_of command_at zeros bit link flipped head_at between
+    next commands recording_at read_file words splice read_leaves
 writes-A = refl
 
 -- a file that is refused, with its limit and its room

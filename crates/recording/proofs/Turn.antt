@@ -60,7 +60,8 @@ module _ (bytes : List ℕ) (at c : ℕ) (rest : List ℕ) (e : drop at bytes �
 
 module _ (bytes : List ℕ) (n limit turns at : ℕ) (picks : List (List ℕ)) (links : List ℕ) where
   pub act_turn : (x : Act) (rest : List ℕ) → drop at bytes ≡ spell x ++ rest → May n limit (length picks) links x
-      → commands bytes n limit (suc turns) at picks links ≡ commands bytes n limit turns (at + length (spell x)) (picks_after picks links x) (links_after links x)
+      → commands bytes n limit (suc turns) at picks links
+      ≡ commands bytes n limit turns (at + length (spell x)) (picks_after picks links x) (links_after links x)
   unfolding commands first_or command_of arity_of lookup
   act_turn (sets true a b) rest e m =
       simp (next_then, here bytes at 0x4F (a ∷ b ∷ rest) e false 2 refl refl (omega arith), able n a b m.0, changes true (link links a b) m.1)
@@ -110,7 +111,8 @@ module _ (bytes : List ℕ) (n limit at : ℕ) (picks : List (List ℕ)) (links 
   -- what is to be shown of a command byte at the place, with k operands
   abbrev Byte : ℕ → ℕ → Type 0
   Byte b k = b ≡ get_or bytes at 0 → misplaced false b ≡ false → at + 1 + k ≤ length bytes
-      → Uncaused (command_of b (get_or bytes (at + 1) 0) (get_or bytes (at + 2) 0)) → Goes (command_of b (get_or bytes (at + 1) 0) (get_or bytes (at + 2) 0)) → Here
+      → Uncaused (command_of b (get_or bytes (at + 1) 0) (get_or bytes (at + 2) 0))
+      → Goes (command_of b (get_or bytes (at + 1) 0) (get_or bytes (at + 2) 0)) → Here
 
   by_link : (x : Bool) → code x ≡ get_or bytes at 0 → at + 1 + 2 ≤ length bytes
       → (let i = Later (Link (record { 0 = get_or bytes (at + 1) 0 }) (record { 0 = get_or bytes (at + 2) 0 }) x) in Uncaused i → Goes i → Here)

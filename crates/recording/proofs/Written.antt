@@ -99,7 +99,8 @@ module _ {bytes : List ℕ} {n limit : ℕ} {whole : Content} {writes : Bool} {o
 
     -- a command that cannot be taken apart ends the reading
     pub underway_other : (writes ≡ true → is_ended whole ≡ true) → NotLater x → GoneOver writes whole out₀ (partIs.Refused (refusal_in x)) out
-    underway_other may k = refused_over writes _ out₀ out may (sym (turn refl) ∙ follow_other (commands bytes n limit (a.turns - 1)) n at a.picks links x k) a.front
+    underway_other may k =
+        refused_over writes _ out₀ out may (sym (turn refl) ∙ follow_other (commands bytes n limit (a.turns - 1)) n at a.picks links x k) a.front
 
     -- i is the item that x was taken apart to
     module _ {i : Item} (m : x ≡ Later i) where

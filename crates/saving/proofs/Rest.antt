@@ -39,7 +39,8 @@ pub record Passed (x : Bool) (old new : List ℕ) (n a at : ℕ) (out₀ out : L
   onward : (b : ℕ) → k ≤ b → b < n → bit rest b ≡ becomes x (link old a b) (link new a b)
 
 pub passed_start : {x : Bool} {old new : List ℕ} {n a at : ℕ} {out₀ : List ℕ} {rest : ℕ} → Clean n old → Clean n new
-    → at + length (bytes_of (row_acts x old new n a)) ≤ length out₀ → Changed x (get_or old a 0) (get_or new a 0) rest → Passed x old new n a at out₀ out₀ at rest
+    → at + length (bytes_of (row_acts x old new n a)) ≤ length out₀ → Changed x (get_or old a 0) (get_or new a 0) rest
+    → Passed x old new n a at out₀ out₀ at rest
 unfolding row_acts link
 passed_start {x} {old} {new} {n} {a} p q h e = record {
   k = 0;

@@ -76,7 +76,8 @@ counted_start = record { low = omega arith; sum = refl; few = omega arith }
 
 -- no row has more than 32
 pub few_ones : (n : ℕ) (old new : List ℕ) (a : ℕ) → n ≤ 32 → Words n old → Words n new → ones (bit_xor (get_or old a 0) (get_or new a 0)) ≤ 32
-few_ones n old new a h o w = omega (arith, ones-le n (bit_xor (get_or old a 0) (get_or new a 0)) (xor_lt n (get_or old a 0) (get_or new a 0) (o.small a) (w.small a)))
+few_ones n old new a h o w =
+    omega (arith, ones-le n (bit_xor (get_or old a 0) (get_or new a 0)) (xor_lt n (get_or old a 0) (get_or new a 0) (o.small a) (w.small a)))
 
 module _ {n : ℕ} {old new : List ℕ} {links a : ℕ} (c : Counted n old new links a) where
   pub counted_turn : a < n → n ≤ 32 → Words n old → Words n new → Counted n old new (links + ones (bit_xor (get_or old a 0) (get_or new a 0))) (a + 1)

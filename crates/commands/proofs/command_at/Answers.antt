@@ -1,5 +1,5 @@
 -- `commands::command_at` meets its contract: each return rewrites with the tests on its way, and with what the callees ensure.
--- `.enum_told .given .1` and `.operands .given .1` say which constructor `operands_of` returned.
+-- `c.in-Known.is` and `c.in_default.is` say which constructor `operands_of` returned.
 -- Assumes nothing.
 use mathlib.Core.Path.{sym, ◌∙◌}
 use borrow.Author.Tests.{lt-ltb, le-ltb}

@@ -1,5 +1,5 @@
 -- `commands::next` meets its contract. `next_other` answers the other case of the `let .. else`.
--- In each answer m is the place behind the `let .. else`, and i the arm of a link.
+-- In the answers `c.in-Later` is the place behind the `let .. else`, and `c.in-Link` the arm of a link.
 -- Assumes nothing.
 use mathlib.Core.Path.{sym, ◌∙◌}
 use borrow.Author.Tests.{le-leb, lt-leb}

@@ -1,6 +1,5 @@
 -- `commands::operands_of` meets its contract: what is left of the table gives the same answer as the whole.
 -- Assumes nothing.
--- what a read past the end would give
 use mathlib.Core.Path.{refl, sym, ◌∙◌}
 use native.Mathlib.Omega.{arith}
 use Rattle.std.proofs.Common.{rules}
@@ -9,6 +8,7 @@ use Rattle.commands.specs.declared.Shape.{Shape}
 use Rattle.commands.specs.Commands.{shapes, arity_of}
 use Rattle.commands.proofs.operands_of.Goals as goal
 
+-- what a read past the end would give
 abbrev none : Shape
 none = record { byte = 0; operands = 0 }
 

@@ -1,6 +1,5 @@
 -- `commands::operands_of` meets its contract: what is left of the table gives the same answer as the whole.
 -- Assumes nothing.
--- what a read past the end would give
 use mathlib.Core.Path.{◌≡◌}
 use Prim.Native.Nat.{◌-◌, ◌≤◌}
 use lib.ListN.{drop}

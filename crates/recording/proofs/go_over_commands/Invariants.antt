@@ -1,5 +1,4 @@
 -- `recording::go_over_commands` meets its contract. The invariant is `Underway`: its laws answer the other case of the `let .. else` and each arm.
--- In each answer i is the arm of the `match`, m the place behind the `let .. else`, t the one behind the call of `next`, and l the loop's head.
 -- Assumes nothing.
 use mathlib.Core.Path.{◌≡◌}
 use mathlib.Core.List.{[]}

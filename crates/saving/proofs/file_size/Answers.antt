@@ -1,14 +1,11 @@
 -- `saving::file_size` meets its contract: after k picks, their bytes and three.
 -- Assumes nothing.
 use mathlib.Core.Path.{◌≡◌, refl, ◌∙◌}
-use Prim.Native.Nat.{◌+◌, ◌-◌, ◌*◌, ◌≤◌}
 use native.Mathlib.Numerals.{add-one}
 use native.Mathlib.Omega.{arith}
-use lib.ListN.{length}
-use Rattle.std.proofs.Common.{rules}
 use Rattle.checks.specs.Lent.{lent_picks}
 use Rattle.checks.proofs.Lent.{length_lent}
-use Rattle.saving.specs.File.{each, acts_at}
+use Rattle.saving.specs.File.{each}
 use Rattle.saving.specs.Puts.{bytes_of}
 use Rattle.saving.proofs.Acts.{bytes_length}
 use Rattle.saving.proofs.Size.{file-size}
@@ -17,14 +14,6 @@ use Rattle.saving.proofs.file_size.Goals as goal
 pub loop-k-init : goal.loop-k-init
 unfolding each bytes_of
 loop-k-init c = (omega arith, refl, omega arith)
-
-pub size_at-size-requires : goal.size_at-size-requires
-size_at-size-requires c = let p = c.requires in (p.0, p.1, c.loop-k-test.true, p.2, p.3)
-
-pub overflow_add-size : goal.overflow_add-size
-overflow_add-size c =
-    let l = c.requires.1 in
-    omega (arith, c.loop-k.invariant.2, c.size_at-size.ensures.1, c.loop-k-test.true)
 
 pub loop-k-preserved : goal.loop-k-preserved
 unfolding each

@@ -1,17 +1,11 @@
 -- `saving::file_size` meets its contract: after k picks, their bytes and three.
 -- Assumes nothing.
-use mathlib.Core.Path.{◌≡◌, refl, ◌∙◌}
-use Prim.Native.Nat.{◌+◌, ◌-◌, ◌*◌, ◌≤◌}
-use native.Mathlib.Numerals.{add-one}
-use native.Mathlib.Omega.{arith}
+use mathlib.Core.Path.{◌≡◌}
+use Prim.Native.Nat.{◌+◌, ◌*◌, ◌≤◌}
 use lib.ListN.{length}
-use Rattle.std.proofs.Common.{rules}
 use Rattle.checks.specs.Lent.{lent_picks}
-use Rattle.checks.proofs.Lent.{length_lent}
 use Rattle.saving.specs.File.{each, acts_at}
 use Rattle.saving.specs.Puts.{bytes_of}
-use Rattle.saving.proofs.Acts.{bytes_length}
-use Rattle.saving.proofs.Size.{file-size}
 use Rattle.saving.proofs.file_size.Given as goal
 
 abbrev pub invariant-loop-k : goal.invariant-loop-k

@@ -1,20 +1,19 @@
 -- `saving::pick_size` meets its contract: after a rows, the links that they change, of which no row has more than 32.
 -- Assumes nothing.
--- no row has more than 32
--- few enough to be counted
-use Prim.Native.Nat.{ℕ, ◌-◌, ◌≤◌}
+use Prim.Native.Nat.{ℕ, ◌≤◌}
 use native.Mathlib.Omega.{arith}
 use lib.Bits.{bit_xor}
 use lib.Count.{ones}
 use lib.ListN.{get_or}
-use Rattle.std.proofs.Common.{rules}
 use Rattle.saving.proofs.Size.{Counted, counted_start, few_ones, counted_turn, counted_all}
 use Rattle.saving.proofs.pick_size.Goals as goal
 use Rattle.saving.proofs.pick_size.Goals.{Start}
 
+-- no row has more than 32
 ones-few : (c : Start) (a : ℕ) → ones (bit_xor (get_or c.args.old.now a 0) (get_or c.args.new.now a 0)) ≤ 32
 ones-few c a = let p = c.requires in few_ones c.args.n c.args.old.now c.args.new.now a p.0 p.1.words p.2.words
 
+-- few enough to be counted
 most : (c : Start) {links a : ℕ} → Counted c.args.n c.args.old.now c.args.new.now links a → links ≤ 1024
 most c i = omega (arith, i.low, i.few, c.requires.0)
 
@@ -28,15 +27,6 @@ pub loop-a-preserved : goal.loop-a-preserved
 loop-a-preserved c =
     let p = c.requires in
     counted_turn c.loop-a.invariant c.loop-a-test.true p.0 p.1.words p.2.words
-
-pub overflow_cast-result : goal.overflow_cast-result
-overflow_cast-result c = omega (arith, most (goal.at.overflow_cast-result c).Start c.loop-a.invariant)
-
-pub overflow_mul-result : goal.overflow_mul-result
-overflow_mul-result c = omega (arith, most (goal.at.overflow_mul-result c).Start c.loop-a.invariant)
-
-pub overflow_add-result : goal.overflow_add-result
-overflow_add-result c = omega (arith, most (goal.at.overflow_add-result c).Start c.loop-a.invariant)
 
 pub returns : goal.returns
 returns c =

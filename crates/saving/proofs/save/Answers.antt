@@ -5,7 +5,6 @@ use mathlib.Core.Bool.{Bool, true, not}
 use Prim.Native.Nat.{◌*◌, ◌/◌, ◌≤◌}
 use native.Mathlib.Nat.{div-add-mod', le_refl}
 use native.Mathlib.Omega.{arith}
-use Rattle.std.proofs.Common.{rules}
 use borrow.Author.Tests.{eq-eqb, ne_eqb, lt-ltb, le-ltb}
 use lib.ListN.{length}
 use Rattle.model.specs.declared.Refusal.TheVariants as cause
@@ -60,11 +59,11 @@ returns-then-m-gt4096 c =
     let a = c.args in
     refused_by a.n a.words.now a.out.now cause.Picks
     (cause_next 1 _ (turned c.is_between.ensures c.if-not-is_between.false) (cause_next 10 _ (rw (eq-eqb _ _ c.if-words-n-ne0.false))
-    (cause_here _ (lt-ltb _ _ c.if-m-gt4096.true))))
+    (cause_here _ (lt-ltb 4096 (length a.words.now / a.n) (omega arith)))))
 
 pub are_clean-requires : goal.are_clean-requires
 are_clean-requires c =
-    ((between_says _ _ _ (sym c.is_between.ensures ∙ c.if-not-is_between.false)).1, (c.if-m-gt4096.false, whole_words (goal.at.are_clean-requires c).Start))
+    ((between_says _ _ _ (sym c.is_between.ensures ∙ c.if-not-is_between.false)).1, (omega arith, whole_words (goal.at.are_clean-requires c).Start))
 
 pub returns-then-not-are_clean : goal.returns-then-not-are_clean
 unfolding save_verdict
@@ -72,12 +71,12 @@ returns-then-not-are_clean c =
     let a = c.args in
     refused_by a.n a.words.now a.out.now cause.Forbidden
     (cause_next 1 _ (turned c.is_between.ensures c.if-not-is_between.false) (cause_next 10 _ (rw (eq-eqb _ _ c.if-words-n-ne0.false))
-    (cause_next 3 _ (le-ltb _ _ c.if-m-gt4096.false) (cause_here _ (turned c.are_clean.ensures c.if-not-are_clean.true)))))
+    (cause_next 3 _ (le-ltb 4096 (length a.words.now / a.n) (omega arith)) (cause_here _ (turned c.are_clean.ensures c.if-not-are_clean.true)))))
 
 pub file_size-size-requires : goal.file_size-size-requires
 file_size-size-requires c = (
   (between_says _ _ _ (sym c.is_between.ensures ∙ c.if-not-is_between.false)).1,
-  c.if-m-gt4096.false,
+  omega arith,
   whole_words (goal.at.file_size-size-requires c).Start,
   recorded (goal.at.file_size-size-requires c).Start c.are_clean.ensures c.if-not-are_clean.false,
 )
@@ -88,13 +87,13 @@ returns-then-out-size c =
     let a = c.args in
     refused_by a.n a.words.now a.out.now cause.FileRoom
     (cause_next 1 _ (turned c.is_between.ensures c.if-not-is_between.false) (cause_next 10 _ (rw (eq-eqb _ _ c.if-words-n-ne0.false))
-    (cause_next 3 _ (le-ltb _ _ c.if-m-gt4096.false) (cause_next 5 _ (turned c.are_clean.ensures c.if-not-are_clean.false)
+    (cause_next 3 _ (le-ltb 4096 (length a.words.now / a.n) (omega arith)) (cause_next 5 _ (turned c.are_clean.ensures c.if-not-are_clean.false)
     (cause_here _ (rw (sym c.file_size-size.ensures) (lt-ltb _ _ c.if-out-size.true)))))))
 
 pub write_file-requires : goal.write_file-requires
 write_file-requires c = (
   (between_says _ _ _ (sym c.is_between.ensures ∙ c.if-not-is_between.false)).1,
-  c.if-m-gt4096.false,
+  omega arith,
   whole_words (goal.at.write_file-requires c).Start,
   recorded (goal.at.write_file-requires c).Start c.are_clean.ensures c.if-not-are_clean.false,
   rw (sym c.file_size-size.ensures) c.if-out-size.false,
@@ -106,6 +105,6 @@ returns c =
     let a = c.args in
     written_by a.n a.words.now a.out.now
     (cause_next 1 _ (turned c.is_between.ensures c.if-not-is_between.false) (cause_next 10 _ (rw (eq-eqb _ _ c.if-words-n-ne0.false))
-    (cause_next 3 _ (le-ltb _ _ c.if-m-gt4096.false) (cause_next 5 _ (turned c.are_clean.ensures c.if-not-are_clean.false)
+    (cause_next 3 _ (le-ltb 4096 (length a.words.now / a.n) (omega arith)) (cause_next 5 _ (turned c.are_clean.ensures c.if-not-are_clean.false)
     (cause_next 18 _ (rw (sym c.file_size-size.ensures) (le-ltb _ _ c.if-out-size.false)) cause_none)))))
     c.file_size-size.ensures c.write_file.ensures

@@ -1,35 +1,27 @@
 -- `saving::write_at` meets its contract: the parts that it lends are the pick and the one before it, none before the first.
 -- Assumes nothing.
--- the part lent for the pick, and the picks
--- what `write_pick` requires where it is lent the links before, and what it then ensures
 use mathlib.Core.Path.{◌≡◌}
 use mathlib.Core.List.{List}
 use Prim.Native.Nat.{ℕ, ◌+◌, ◌-◌, ◌*◌, ◌≤◌}
 use native.Mathlib.Omega.{arith}
-use Rattle.std.proofs.Common.{rules}
 use lib.ListN.{length, take, drop}
 use Rattle.model.specs.Recording.{Clean}
-use Rattle.links.proofs.Picks.{lent_end}
 use Rattle.checks.specs.Lent.{lent_picks}
 use Rattle.checks.proofs.Lent.{length_lent}
 use Rattle.saving.specs.File.{pick_acts, links_at, acts_at}
 use Rattle.saving.specs.Puts.{bytes_of, Puts}
-use Rattle.saving.proofs.Lends.{before_clean, pick_clean, few_words, one_behind, this_part, last_part, none_part}
+use Rattle.saving.proofs.Lends.{before_clean, pick_clean, this_part, last_part, none_part}
 use Rattle.saving.proofs.write_at.Goals as goal
 use Rattle.saving.proofs.write_at.Goals.{Start}
 
-few : (c : Start) → c.args.k * c.args.n + c.args.n ≤ 131072
-few c = let p = c.requires in few_words c.args.n c.args.m c.args.k p.0 p.1 p.2
-
-inside : (c : Start) → c.args.k * c.args.n + c.args.n ≤ length c.args.words.now
-inside c = let p = c.requires in omega (arith, lent_end c.args.n p.2, p.3)
-
+-- the part lent for the pick, and the picks
 abbrev this : Start → List ℕ
 this c = take (c.args.k * c.args.n + c.args.n - c.args.k * c.args.n) (drop (c.args.k * c.args.n) c.args.words.now)
 
 abbrev picks : Start → List (List ℕ)
 picks c = lent_picks c.args.n c.args.words.now c.args.m
 
+-- what `write_pick` requires where it is lent the links before, and what it then ensures
 requires : (c : Start) {old : List ℕ} → old ≡ links_at c.args.n (picks c) c.args.k
     → (c.args.n ≤ 32) × Clean c.args.n old × Clean c.args.n (this c)
     × (c.args.at + length (bytes_of (pick_acts c.args.n old (this c))) ≤ length c.args.out.now)
@@ -51,15 +43,6 @@ puts : (c : Start) {old after : List ℕ} {behind : ℕ} → old ≡ links_at c.
 unfolding acts_at
 puts c e d = let a = c.args in rw (e, this_part a.n a.m a.k a.words.now c.requires.2) at d
 
-pub overflow_mul-from : goal.overflow_mul-from
-overflow_mul-from c = omega (arith, few (goal.at.overflow_mul-from c).Start)
-
-pub overflow_add-from : goal.overflow_add-from
-overflow_add-from c = omega (arith, few (goal.at.overflow_add-from c).Start)
-
-pub offset_bounds-words-from : goal.offset_bounds-words-from
-offset_bounds-words-from c = omega (arith, few (goal.at.offset_bounds-words-from c).Start)
-
 pub write_pick-requires : goal.write_pick-requires
 write_pick-requires c =
     let a = c.args in
@@ -70,24 +53,6 @@ returns-then-k-eq0 c =
     let a = c.args in
     puts (goal.at.returns-then-k-eq0 c).Start (none_part a.n a.m a.k a.words.now c.requires.2 _ c.no_words-none.ensures c.requires.0 c.if-k-eq0.true)
     c.write_pick.ensures
-
-pub overflow_sub-from : goal.overflow_sub-from
-overflow_sub-from c = let a = c.args in omega (arith, one_behind a.n a.k c.if-k-eq0.false)
-
-pub offset_bounds-words-from-2 : goal.offset_bounds-words-from-2
-offset_bounds-words-from-2 c = omega (arith, few (goal.at.offset_bounds-words-from-2 c).Start)
-
-pub slice_bounds-write_pick-end-2 : goal.slice_bounds-write_pick-end-2
-slice_bounds-write_pick-end-2 c = omega (arith, inside (goal.at.slice_bounds-write_pick-end-2 c).Start)
-
-pub overflow_add-from-2 : goal.overflow_add-from-2
-overflow_add-from-2 c = omega (arith, few (goal.at.overflow_add-from-2 c).Start)
-
-pub offset_bounds-words-from-3 : goal.offset_bounds-words-from-3
-offset_bounds-words-from-3 c = omega (arith, few (goal.at.offset_bounds-words-from-3 c).Start)
-
-pub slice_bounds-write_pick-end-3 : goal.slice_bounds-write_pick-end-3
-slice_bounds-write_pick-end-3 c = omega (arith, inside (goal.at.slice_bounds-write_pick-end-3 c).Start)
 
 pub write_pick-requires-2 : goal.write_pick-requires-2
 write_pick-requires-2 c =

@@ -1,13 +1,9 @@
 -- `saving::write_changes` meets its contract: two groups of commands, one behind the other; where the words are as they were, none.
 -- Assumes nothing.
--- no command where no link changes
--- the commands of the links that shut, or open
 use mathlib.Core.Path.{◌≡◌, refl, sym, ◌∙◌}
 use mathlib.Core.Bool.{Bool, true, false}
 use mathlib.Core.List.{List, [], ◌++◌}
 use Prim.Native.Nat.{ℕ, ◌+◌, ◌≤◌}
-use native.Mathlib.Omega.{arith}
-use Rattle.std.proofs.Common.{rules}
 use lib.ListN.{length}
 use Rattle.model.specs.Recording.{link}
 use Rattle.model.proofs.Logic.{tr}
@@ -26,10 +22,12 @@ stays true false = refl
 stays false true = refl
 stays false false = refl
 
+-- no command where no link changes
 none : (x : Bool) (t : List ℕ) (n : ℕ) → table_acts x t t n ≡ []
 unfolding table_acts row_acts link_acts
 none x t n = each_none (row_acts x t t n) (λ a. each_none (link_acts x t t a) (λ b. rw (stays x (link t a b))) n) n
 
+-- the commands of the links that shut, or open
 abbrev acts : Start → Bool → List Act
 acts c x = table_acts x c.args.old.now c.args.new.now c.args.n
 
@@ -48,15 +46,19 @@ returns-then-is_same c =
 pub write_table-shut-requires : goal.write_table-shut-requires
 write_table-shut-requires c =
     let p = c.requires in
-    (p.0, p.1, p.2, first_room c.args.out.now c.args.at (acts (goal.at.write_table-shut-requires c).Start false) (acts (goal.at.write_table-shut-requires c).Start true) (room (goal.at.write_table-shut-requires c).Start))
+    let s = (goal.at.write_table-shut-requires c).Start in
+    (p.0, p.1, p.2, first_room c.args.out.now c.args.at (acts s false) (acts s true) (room s))
 
 pub write_table-requires : goal.write_table-requires
 write_table-requires c =
     let p = c.requires in
-    (p.0, p.1, p.2, second_room c.args.out.now c.args.at (acts (goal.at.write_table-requires c).Start false) (acts (goal.at.write_table-requires c).Start true) (room (goal.at.write_table-requires c).Start) c.write_table-shut.ensures)
+    let s = (goal.at.write_table-requires c).Start in
+    (p.0, p.1, p.2, second_room c.args.out.now c.args.at (acts s false) (acts s true) (room s) c.write_table-shut.ensures)
 
 pub returns : goal.returns
 unfolding change_acts
 returns c =
-    puts_more (first_room c.args.out.now c.args.at (acts (goal.at.returns c).Start false) (acts (goal.at.returns c).Start true) (room (goal.at.returns c).Start)) c.write_table-shut.ensures {ys = acts (goal.at.returns c).Start true}
+    let s = (goal.at.returns c).Start in
+    puts_more (first_room c.args.out.now c.args.at (acts s false) (acts s true) (room s)) c.write_table-shut.ensures
+    {ys = acts s true}
     c.write_table.ensures

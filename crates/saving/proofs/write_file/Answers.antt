@@ -1,20 +1,19 @@
 -- `saving::write_file` meets its contract: 42 and n, the picks, and the 45, one behind the other.
 -- Assumes nothing.
--- the commands of m picks
 use mathlib.Core.Path.{◌≡◌}
 use mathlib.Core.List.{List}
-use Prim.Native.Nat.{ℕ, ◌-◌, ◌≤◌}
+use Prim.Native.Nat.{ℕ, ◌≤◌}
 use native.Mathlib.Omega.{arith}
-use Rattle.std.proofs.Common.{rules}
 use lib.ListN.{length, length-set}
 use Rattle.checks.specs.Lent.{lent_picks}
 use Rattle.checks.proofs.Lent.{length_lent}
 use Rattle.recording.specs.Grammar.{Act, spell_file}
 use Rattle.saving.specs.File.{each, acts_at, file_acts, file}
-use Rattle.saving.proofs.Put.{Wrote, wrote_start, wrote_room, wrote_turn, wrote_all, file_room, head_long, last_long, last_room, file_put}
+use Rattle.saving.proofs.Put.{wrote_start, wrote_room, wrote_turn, wrote_all, file_room, head_long, last_room, file_put}
 use Rattle.saving.proofs.write_file.Goals as goal
 use Rattle.saving.proofs.write_file.Goals.{Start}
 
+-- the commands of m picks
 abbrev acts : ℕ → ℕ → List ℕ → List Act
 acts n m w = each (acts_at n (lent_picks n w m)) m
 
@@ -55,12 +54,6 @@ pub bounds-out-next : goal.bounds-out-next
 bounds-out-next c =
     let a = c.args in
     last_room a.n (acts a.n a.m a.words.now) a.out.now (room (goal.at.bounds-out-next c).Start) (wrote_all c.loop-k.invariant c.loop-k-test.false)
-
-pub shape_of-out : goal.shape_of-out
-shape_of-out c =
-    let a = c.args in
-    simp length-set (last_long a.n (acts a.n a.m a.words.now) a.out.now (room (goal.at.shape_of-out c).Start)
-    (wrote_all c.loop-k.invariant c.loop-k-test.false))
 
 pub returns : goal.returns
 returns c =

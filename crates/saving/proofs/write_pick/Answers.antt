@@ -3,7 +3,6 @@
 use mathlib.Core.List.{List, [], ◌∷◌, ◌++◌}
 use Prim.Native.Nat.{◌+◌, ◌≤◌, ◌<◌}
 use native.Mathlib.Omega.{arith}
-use Rattle.std.proofs.Common.{rules}
 use lib.ListN.{length}
 use Rattle.recording.specs.Grammar.{Act, pick}
 use Rattle.saving.specs.File.{change_acts, pick_acts}
@@ -23,7 +22,8 @@ room c = c.requires.3
 pub write_changes-next-requires : goal.write_changes-next-requires
 write_changes-next-requires c =
     let p = c.requires in
-    (p.0, p.1, p.2, first_room c.args.out.now c.args.at (acts (goal.at.write_changes-next-requires c).Start) (pick ∷ []) (room (goal.at.write_changes-next-requires c).Start))
+    let s = (goal.at.write_changes-next-requires c).Start in
+    (p.0, p.1, p.2, first_room c.args.out.now c.args.at (acts s) (pick ∷ []) (room s))
 
 -- the place of the 50
 place : (c : After-write_changes-next) → c.write_changes-next.result < length c.write_changes-next.new.out

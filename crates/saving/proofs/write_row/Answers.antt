@@ -1,9 +1,8 @@
 -- `saving::write_row` meets its contract. The invariant is `Passed`; the measure is the word of the links still to be written.
 -- Assumes nothing.
 use native.Mathlib.Omega.{arith}
-use Rattle.std.proofs.Common.{rules}
 use Rattle.links.proofs.Bits.{without_less}
-use Rattle.saving.proofs.Rest.{Passed, passed_start, passed_room, passed_turn, passed_long, passed_all}
+use Rattle.saving.proofs.Rest.{passed_start, passed_room, passed_turn, passed_all}
 use Rattle.saving.proofs.write_row.Goals as goal
 
 pub loop-rest-init : goal.loop-rest-init
@@ -27,9 +26,6 @@ loop-rest-preserved c =
     let b = c.board_in-b.ensures in
     passed_turn c.loop-rest.invariant _ b.1 b.2 c.requires.0 c.cleared-rest.ensures
     c.put_link-next.ensures
-
-pub shape_of-out : goal.shape_of-out
-shape_of-out c = passed_long c.loop-rest.invariant
 
 pub returns : goal.returns
 returns c = passed_all c.loop-rest.invariant c.loop-rest-test.false

@@ -1,9 +1,6 @@
 -- `saving::write_row` meets its contract. The invariant is `Passed`; the measure is the word of the links still to be written.
 -- Assumes nothing.
-use native.Mathlib.Omega.{arith}
-use Rattle.std.proofs.Common.{rules}
-use Rattle.links.proofs.Bits.{without_less}
-use Rattle.saving.proofs.Rest.{Passed, passed_start, passed_room, passed_turn, passed_long, passed_all}
+use Rattle.saving.proofs.Rest.{Passed}
 use Rattle.saving.proofs.write_row.Given as goal
 
 abbrev pub invariant-loop-rest : goal.invariant-loop-rest

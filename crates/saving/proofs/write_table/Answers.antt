@@ -1,9 +1,7 @@
 -- `saving::write_table` meets its contract. The invariant: the commands of the rows passed are put.
 -- Assumes nothing.
-use Prim.Native.Nat.{◌-◌}
-use Rattle.std.proofs.Common.{rules}
-use Rattle.saving.specs.File.{row_acts, table_acts}
-use Rattle.saving.proofs.Put.{Wrote, wrote_start, wrote_room, wrote_turn, wrote_long, wrote_all}
+use Rattle.saving.specs.File.{table_acts}
+use Rattle.saving.proofs.Put.{wrote_start, wrote_room, wrote_turn, wrote_all}
 use Rattle.saving.proofs.write_table.Goals as goal
 
 pub loop-a-init : goal.loop-a-init
@@ -19,9 +17,6 @@ write_row-next-requires c =
 pub loop-a-preserved : goal.loop-a-preserved
 loop-a-preserved c =
     wrote_turn c.loop-a.invariant c.loop-a-test.true c.write_row-next.ensures
-
-pub shape_of-out : goal.shape_of-out
-shape_of-out c = wrote_long c.loop-a.invariant
 
 pub returns : goal.returns
 unfolding table_acts

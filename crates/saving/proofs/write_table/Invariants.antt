@@ -1,9 +1,7 @@
 -- `saving::write_table` meets its contract. The invariant: the commands of the rows passed are put.
 -- Assumes nothing.
-use Prim.Native.Nat.{◌-◌}
-use Rattle.std.proofs.Common.{rules}
-use Rattle.saving.specs.File.{row_acts, table_acts}
-use Rattle.saving.proofs.Put.{Wrote, wrote_start, wrote_room, wrote_turn, wrote_long, wrote_all}
+use Rattle.saving.specs.File.{row_acts}
+use Rattle.saving.proofs.Put.{Wrote}
 use Rattle.saving.proofs.write_table.Given as goal
 
 abbrev pub invariant-loop-a : goal.invariant-loop-a
