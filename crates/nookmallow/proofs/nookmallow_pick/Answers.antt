@@ -36,5 +36,7 @@ returns-in-NotTaken c =
     let e = c.place_of.ensures in
     let a = c.args.area.now in
     let w = c.args.words.now in
-    let g = c.c-1.given in
-    (refused_is _ a w g.0.1.0 f e c.cause_word.ensures (sym (ap taking_says g.1) ∙ c.pick.ensures.0), kept_is _ a w f e c.pick.ensures.1)
+    (
+      refused_is _ a w c.in-NotTaken.c f e c.cause_word.ensures (sym (ap taking_says c.in-NotTaken.is) ∙ c.pick.ensures.0),
+      kept_is _ a w f e c.pick.ensures.1,
+    )
