@@ -106,12 +106,7 @@ pub fn nookmallow_length(p: PlaceWords) -> MeasuredWords
 }
 
 // The length of a recording lent whole, n words a pick.
-pub fn nookmallow_whole(
-    n: u32,
-    measure: u32,
-    words: &[u32],
-    area: &mut [u32],
-) -> AnswerWords
+pub fn nookmallow_whole(n: u32, measure: u32, words: &[u32], area: &mut [u32]) -> AnswerWords
     ensures { (result ≡ answer_words (whole_says n measure words.now area.old)) × (area.new ≡ whole_leaves n measure words.now area.old) }
 {
     crossing::answer_words(calls::whole(n as usize, measure as usize, words, area))
