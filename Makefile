@@ -1,5 +1,5 @@
 # The C side: the archive with its header, the examples, and the tests of the boundary; and `make check`, what the gate does not look at. The gate
-# is .ci/run alone; nothing here is part of it. Everything is written to target/, which the gate removes.
+# is .ci/run alone; nothing here is part of it. Everything is written to target/, and what rt makes to a crate's out/; neither is committed.
 RT = rt
 CC = gcc
 CXX = g++
@@ -20,9 +20,10 @@ check:
 	$(MAKE) check-abi
 
 lib:
-	$(RT) staticlib nookmallow
+	cd crates/nookmallow_c && $(RT) lib --cpu=x86-64
 	mkdir -p $(OUT)
-	cp target/staticlib/libnookmallow.a include/nookmallow.h include/nookmallow.rs $(OUT)
+	cp crates/nookmallow_c/out/libnookmallow_c.a $(LIB)
+	cp include/nookmallow.h include/nookmallow.rs $(OUT)
 
 examples: lib
 	mkdir -p target/examples

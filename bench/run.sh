@@ -4,13 +4,13 @@
 # Its output is in target/bench. Needs rustc and valgrind. Takes some two minutes, the proof of the archive not counted.
 set -euo pipefail
 cd "$(dirname "$0")/.."
-archive=target/staticlib/libnookmallow.a
+archive=target/nookmallow/libnookmallow.a
 if [ ! -f "$archive" ] || [ -n "$(find crates -name '*.rt' -newer "$archive" -print -quit)" ]; then
-    rt staticlib nookmallow
+    make lib
 fi
 mkdir -p target/bench
 speed=target/bench/speed
-rustc -C opt-level=3 --edition 2021 bench/speed.rs -L target/staticlib -o "$speed"
+rustc -C opt-level=3 --edition 2021 bench/speed.rs -L target/nookmallow -o "$speed"
 "$speed" compare
 
 # Instructions a pick: a run of one turn less a run of none, so that the start and the making of the recording drop out; all of them, and those of them

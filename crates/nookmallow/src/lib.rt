@@ -1,4 +1,5 @@
-// The C boundary: each function hands one call to C and answers what that call answers, as words of 32 bits. None requires anything.
+// The C boundary: each function hands one call to C and answers what that call answers, as words of 32 bits. None requires anything. `nookmallow_c`
+// exports them.
 #![tactic(auto)]
 
 ghost use Rattle.std.specs.Prelude.{◌≡◌};
@@ -18,16 +19,14 @@ use reach::Tabled;
 use recording::Reading;
 
 // The version of the format of the place and of the area.
-#[unsafe(no_mangle)]
-pub extern "C" fn nookmallow_version() -> u32
+pub fn nookmallow_version() -> u32
     ensures { result ≡ 1 }
 {
     1
 }
 
 // Opens a walk over n boards.
-#[unsafe(no_mangle)]
-pub extern "C" fn nookmallow_open(
+pub fn nookmallow_open(
     n: u32,
     measure: u32,
     limit: u32,
@@ -55,8 +54,7 @@ pub extern "C" fn nookmallow_open(
 }
 
 // Takes a pick.
-#[unsafe(no_mangle)]
-pub extern "C" fn nookmallow_pick(p: PlaceWords, area: &mut [u32], words: &[u32]) -> HandedWords
+pub fn nookmallow_pick(p: PlaceWords, area: &mut [u32], words: &[u32]) -> HandedWords
     ensures { (result ≡ pick_answers p area.old words.now) × (area.new ≡ pick_keeps p area.old words.now) }
 {
     if !crossing::are_flags(p) {
@@ -94,8 +92,7 @@ fn length_words(p: PlaceWords) -> AnswerWords
 }
 
 // The length of the picks so far, with the counts. The place is handed back as it was.
-#[unsafe(no_mangle)]
-pub extern "C" fn nookmallow_length(p: PlaceWords) -> MeasuredWords
+pub fn nookmallow_length(p: PlaceWords) -> MeasuredWords
     ensures { result ≡ measured_words (length_answers p) p }
 {
     let a = length_words(p);
@@ -109,21 +106,14 @@ pub extern "C" fn nookmallow_length(p: PlaceWords) -> MeasuredWords
 }
 
 // The length of a recording lent whole, n words a pick.
-#[unsafe(no_mangle)]
-pub extern "C" fn nookmallow_whole(
-    n: u32,
-    measure: u32,
-    words: &[u32],
-    area: &mut [u32],
-) -> AnswerWords
+pub fn nookmallow_whole(n: u32, measure: u32, words: &[u32], area: &mut [u32]) -> AnswerWords
     ensures { (result ≡ answer_words (whole_says n measure words.now area.old)) × (area.new ≡ whole_leaves n measure words.now area.old) }
 {
     crossing::answer_words(calls::whole(n as usize, measure as usize, words, area))
 }
 
 // Whether every window of k picks passes, of a recording lent whole.
-#[unsafe(no_mangle)]
-pub extern "C" fn nookmallow_decide(
+pub fn nookmallow_decide(
     n: u32,
     measure: u32,
     words: &[u32],
@@ -138,8 +128,7 @@ pub extern "C" fn nookmallow_decide(
 }
 
 // The table of reach of a recording lent whole, into the first n words of out.
-#[unsafe(no_mangle)]
-pub extern "C" fn nookmallow_table(n: u32, words: &[u32], out: &mut [u32]) -> u32
+pub fn nookmallow_table(n: u32, words: &[u32], out: &mut [u32]) -> u32
     ensures { (result ≡ table_verdict n words.now out.old) × (out.new ≡ table_leaves n words.now out.old) }
 {
     match reach::table(n as usize, words, out) {
@@ -149,8 +138,7 @@ pub extern "C" fn nookmallow_table(n: u32, words: &[u32], out: &mut [u32]) -> u3
 }
 
 // Reads a recording file: n and the number of picks, and their words into out.
-#[unsafe(no_mangle)]
-pub extern "C" fn nookmallow_read(bytes: &[u8], limit: u32, out: &mut [u32]) -> ReadingWords
+pub fn nookmallow_read(bytes: &[u8], limit: u32, out: &mut [u32]) -> ReadingWords
     ensures { (result ≡ reading_words (read_says limit bytes.now out.old)) × (out.new ≡ read_leaves limit bytes.now out.old) }
 {
     match recording::read(bytes, limit as usize, out) {
@@ -168,8 +156,7 @@ pub extern "C" fn nookmallow_read(bytes: &[u8], limit: u32, out: &mut [u32]) -> 
 }
 
 // Writes the recording file of a recording lent whole, n words a pick, into the first bytes of out.
-#[unsafe(no_mangle)]
-pub extern "C" fn nookmallow_save(n: u32, words: &[u32], out: &mut [u8]) -> SavedWords
+pub fn nookmallow_save(n: u32, words: &[u32], out: &mut [u8]) -> SavedWords
     ensures { (result ≡ saved_words (save_says n words.now out.old))
         × (out.new ≡ save_leaves n words.now out.old) }
 {

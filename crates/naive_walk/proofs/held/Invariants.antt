@@ -1,8 +1,6 @@
 -- `naive_walk::held` meets its contract. The loop's invariant: behind p picks m is p.
 -- Assumes nothing.
 use mathlib.Core.Path.{◌≡◌}
-use Prim.Native.Nat.{◌-◌}
-use Rattle.std.proofs.Common.{rules}
 use Rattle.naive_walk.specs.Ranges.{BehindPick}
 use Rattle.naive_walk.proofs.held.Given as goal
 

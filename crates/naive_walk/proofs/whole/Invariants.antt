@@ -1,8 +1,6 @@
 -- `naive_walk::whole` meets its contract. The loop's invariant: behind k picks m is k.
 -- Assumes nothing.
 use mathlib.Core.Path.{◌≡◌}
-use Prim.Native.Nat.{◌-◌}
-use Rattle.std.proofs.Common.{rules}
 use Rattle.naive_walk.specs.Ranges.{BehindPick}
 use Rattle.naive_walk.proofs.whole.Given as goal
 

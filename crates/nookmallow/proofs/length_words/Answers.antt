@@ -1,11 +1,9 @@
 -- `nookmallow::length_words` meets its contract.
 -- Assumes nothing.
 use mathlib.Core.Path.{sym, ap, ◌∙◌, subst}
-use borrow.Author.Tests.{not-true, not-false}
 use Rattle.crossing.specs.Words.{answer_words, NarrowAnswer}
 use Rattle.nookmallow.specs.Boundary.{length_answers}
 use Rattle.nookmallow.proofs.Bounds.{length_narrow}
-use Rattle.std.proofs.Common.{rules}
 use Rattle.nookmallow.proofs.length_words.Goals as goal
 
 pub returns-then-not-are_flags : goal.returns-then-not-are_flags

@@ -1,12 +1,10 @@
 -- `nookmallow::nookmallow_pick` meets its contract.
 -- Assumes nothing.
 use mathlib.Core.Path.{refl, sym, ap, ◌∙◌, subst}
-use borrow.Author.Tests.{not-true, not-false}
 use Rattle.calls.specs.Answers.{Handed, taking_says}
 use Rattle.crossing.specs.Words.{Narrow}
 use Rattle.crossing.proofs.Fits.{handed_is}
 use Rattle.nookmallow.proofs.Bounds.{pick_narrow, picked_is, kept_is, refused_is, flag_refused, flag-kept}
-use Rattle.std.proofs.Common.{rules}
 use Rattle.nookmallow.proofs.nookmallow_pick.Goals as goal
 
 pub returns-then-not-are_flags : goal.returns-then-not-are_flags
@@ -35,6 +33,7 @@ returns-in-NotTaken c =
     let f = sym c.are_flags.ensures ∙ c.if-not-are_flags.false in
     let e = c.place_of.ensures in
     let a = c.args.area.now in
-    let w = c.args.words.now in
-    let g = c.c-1.given in
-    (refused_is _ a w g.0.1.0 f e c.cause_word.ensures (sym (ap taking_says g.1) ∙ c.pick.ensures.0), kept_is _ a w f e c.pick.ensures.1)
+    let w = c.args.words.now in (
+      refused_is _ a w c.in-NotTaken.c f e c.cause_word.ensures (sym (ap taking_says c.in-NotTaken.is) ∙ c.pick.ensures.0),
+      kept_is _ a w f e c.pick.ensures.1,
+    )
