@@ -1,3 +1,2 @@
 // No code: the conditions of the tender, stated once, to be read (specs/).
 #![tactic(auto)]
-

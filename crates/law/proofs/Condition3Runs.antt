@@ -29,7 +29,6 @@ use Rattle.calls.specs.Answers.{Outcome, outcome}
 use Rattle.calls.specs.Calls.{whole_report, whole_says}
 use Rattle.reach.specs.Tables.{table_verdict, table_of, table_leaves}
 use Rattle.law.specs.Condition3.{HasReach, NoReach, SameTables, Around, NeverApart}
-use Rattle.law.specs.Course.{tables}
 use Rattle.law.specs.Claim2.{lent_recording}
 use Rattle.law.specs.Claim3.{Lent, SameWritten, Between, RunsNeverApart, RunsClaim}
 use Rattle.law.specs.Correct.{Right, answered, none_exists}

@@ -12,7 +12,7 @@ use lib.ListN.{length}
 use Rattle.model.specs.Recording.{link, Clean, Recording, pick_at}
 use Rattle.model.proofs.Logic.{F→≡}
 use Rattle.model.specs.Measures.{Listed}
-use Rattle.checks.specs.Checks.{clean, listed}
+use Rattle.checks.specs.Checks.{listed}
 use Rattle.checks.proofs.Clean.{clean_is, listed_is}
 use Rattle.measures.specs.Kit.{Kit, kit, hops01}
 use Rattle.area.specs.Parts.{table_at}

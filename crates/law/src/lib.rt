@@ -1,3 +1,2 @@
 // No code: theorems over the definitions that the other crates' contracts cite (specs/).
 #![tactic(auto)]
-

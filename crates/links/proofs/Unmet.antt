@@ -1,7 +1,7 @@
 -- How many conditions of a table are unmet: none exactly where its test holds; the number by the meaning; and the bits that are counted. Assumes nothing.
 use mathlib.Core.Path.{◌≡◌, refl, sym, ap, ap₂, ◌∙◌}
 use mathlib.Core.Logic.{◌≢◌, ◌⊎◌, inl, inr, ⊎_elim, ◌↔◌}
-use mathlib.Core.Bool.{Bool, true, false, ◌||◌, ◌&&◌, not, cond}
+use mathlib.Core.Bool.{Bool, true, false, ◌||◌, not, cond}
 use mathlib.Core.List.{List}
 use Prim.Native.Nat.{ℕ, ◌+◌, ◌-◌, ◌^◌, ◌≤◌, ◌<◌}
 use native.Mathlib.Omega.{arith}
@@ -15,8 +15,8 @@ use Rattle.model.specs.Journey.{most_links}
 use Rattle.model.specs.Count.{NumberOfPairs}
 use Rattle.model.specs.Measures.{Leads, Unmet}
 use Rattle.model.proofs.Bits.{bit_high, bit-xor, bits_ext}
-use Rattle.model.proofs.Logic.{tr, bool_ext, cases, or_cases, or_l, or_r, not_in, not_out, eq_refl, F→≡}
-use Rattle.lists.specs.Tab.{every, how_many, how_many_pairs}
+use Rattle.model.proofs.Logic.{tr, bool_ext, cases, or_cases, or_l, or_r, not_in, not_out, eq_refl}
+use Rattle.lists.specs.Tab.{how_many}
 use Rattle.lists.proofs.Tab.{get_or-tab, every_in, every_out}
 use Rattle.lists.proofs.Many.{many_ext, many_above, pairs_ext, counted_rows, pairs_zero, none_denied, ones_bits}
 use Rattle.links.specs.Tables.{either_row, union, within, pair_full, row_full, full, connected, row_same, same}

@@ -1,5 +1,5 @@
 -- What the effects of the calls rely on: what holds where the checks find no cause.
-use Rattle.std.specs.Prelude.{List, ◌≡◌, ℕ, ◌+◌, ◌*◌, ◌≤◌, ◌<◌, T, length}
+use Rattle.std.specs.Prelude.{List, ◌≡◌, ℕ, ◌*◌, ◌≤◌, ◌<◌, T, length}
 use Rattle.checks.specs.Checks.{clean, listed}
 use Rattle.checks.specs.Lent.{clean_picks}
 use Rattle.place.specs.declared.Place.{Place}

@@ -12,7 +12,6 @@ use Rattle.measures.specs.Kit.{kit, join_of}
 use Rattle.area.proofs.Lent.{has_at, links_fit, lies_links}
 use Rattle.area.proofs.Stored.{table_lent, onto_lent}
 use Rattle.area.specs.Parts.{compose_at, table_at}
-use Rattle.std.proofs.Common.{rules}
 use Rattle.area.proofs.compose_links.Goals as goal
 
 pub take_table-requires : goal.take_table-requires

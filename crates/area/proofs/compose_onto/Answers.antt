@@ -2,7 +2,6 @@
 -- Assumes nothing.
 use mathlib.Core.Path.{◌∙◌, sym}
 use Rattle.measures.proofs.Words.{size_links}
-use Rattle.std.proofs.Common.{rules}
 use Rattle.area.proofs.compose_onto.Goals as goal
 
 pub compose_times-requires : goal.compose_times-requires

@@ -3,7 +3,6 @@
 use mathlib.Core.Path.{◌∙◌, sym}
 use Rattle.measures.proofs.Words.{size_links}
 use Rattle.area.proofs.Lent.{onto_own}
-use Rattle.std.proofs.Common.{rules}
 use Rattle.area.proofs.compose_own.Goals as goal
 
 pub compose_times-requires : goal.compose_times-requires

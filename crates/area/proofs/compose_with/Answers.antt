@@ -10,7 +10,6 @@ use Rattle.measures.proofs.Words.{size_links}
 use Rattle.measures.specs.Kit.{join_of}
 use Rattle.area.proofs.Lent.{lies_links}
 use Rattle.area.proofs.Stored.{onto_lent}
-use Rattle.std.proofs.Common.{rules}
 use Rattle.area.proofs.compose_with.Goals as goal
 
 pub overflow_mul-at : goal.overflow_mul-at

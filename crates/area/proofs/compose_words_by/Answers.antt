@@ -8,7 +8,6 @@ use Rattle.measures.specs.Kit.{kit, join_of}
 use Rattle.area.proofs.Lent.{has_at, links_fit}
 use Rattle.area.proofs.Stored.{table_lent}
 use Rattle.area.specs.Parts.{table_at, put_table, compose_at}
-use Rattle.std.proofs.Common.{rules}
 use Rattle.area.proofs.compose_words_by.Goals as goal
 
 pub take_table-requires : goal.take_table-requires

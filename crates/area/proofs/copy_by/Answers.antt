@@ -1,6 +1,5 @@
 -- `area::copy_by` meets its contract: what is put is the copy.
 -- Assumes nothing.
-use Rattle.std.proofs.Common.{rules}
 use Rattle.area.proofs.copy_by.Goals as goal
 
 pub returns : goal.returns

@@ -6,7 +6,6 @@ use Rattle.measures.proofs.Words.{size_links}
 use Rattle.measures.specs.Kit.{kit}
 use Rattle.area.proofs.Lent.{has_at, fits_in, size_most}
 use Rattle.area.proofs.Stored.{copy_lent}
-use Rattle.std.proofs.Common.{rules}
 use Rattle.area.proofs.copy_part.Goals as goal
 
 pub copy_times-requires : goal.copy_times-requires

@@ -7,7 +7,6 @@ use Rattle.measures.proofs.Words.{size_links, pass-reach, pass-union}
 use Rattle.measures.specs.Kit.{kit}
 use Rattle.area.proofs.Lent.{lies_links}
 use Rattle.area.proofs.Stored.{table_lent}
-use Rattle.std.proofs.Common.{rules}
 use Rattle.area.proofs.joined_passes.Goals as goal
 
 pub overflow_mul-from : goal.overflow_mul-from

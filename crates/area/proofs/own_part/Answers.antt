@@ -6,7 +6,6 @@ use Rattle.lists.proofs.Splice.{written-part}
 use Rattle.area.proofs.Lent.{lies}
 use Rattle.area.proofs.Stored.{table_fits, stored_lent}
 use Rattle.area.specs.Parts.{own_at}
-use Rattle.std.proofs.Common.{rules}
 use Rattle.area.proofs.own_part.Goals as goal
 
 pub overflow_mul-at : goal.overflow_mul-at

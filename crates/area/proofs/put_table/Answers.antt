@@ -3,7 +3,6 @@
 use mathlib.Core.Path.{◌∙◌}
 use Rattle.area.proofs.Lent.{has_at, fits_in}
 use Rattle.area.proofs.Stored.{stored_lent}
-use Rattle.std.proofs.Common.{rules}
 use Rattle.area.proofs.put_table.Goals as goal
 
 pub write_table-requires : goal.write_table-requires

@@ -3,7 +3,6 @@
 use native.Mathlib.Nat.{add-sub_cancel_left}
 use native.Mathlib.Omega.{arith}
 use Rattle.area.proofs.Lent.{fits}
-use Rattle.std.proofs.Common.{rules}
 use Rattle.area.proofs.take_table.Goals as goal
 
 pub overflow_mul-at : goal.overflow_mul-at

@@ -1,7 +1,6 @@
 -- `area::width` meets its contract: a part has the words of its table.
 -- Assumes nothing.
 use Rattle.area.specs.Parts.{stored_size}
-use Rattle.std.proofs.Common.{rules}
 use Rattle.area.proofs.width.Goals as goal
 
 pub returns : goal.returns

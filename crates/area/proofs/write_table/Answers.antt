@@ -3,7 +3,6 @@
 use native.Mathlib.Omega.{arith}
 use Rattle.lists.proofs.Splice.{written-part}
 use Rattle.area.proofs.Lent.{fits}
-use Rattle.std.proofs.Common.{rules}
 use Rattle.area.proofs.write_table.Goals as goal
 
 pub overflow_mul-at : goal.overflow_mul-at

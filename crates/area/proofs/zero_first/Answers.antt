@@ -1,7 +1,6 @@
 -- `area::zero_first` meets its contract.
 -- Assumes nothing.
 use Rattle.lists.proofs.Splice.{written_first}
-use Rattle.std.proofs.Common.{rules}
 use Rattle.area.proofs.zero_first.Goals as goal
 
 pub returns : goal.returns

@@ -5,7 +5,6 @@ use native.Mathlib.Omega.{arith}
 use Rattle.lists.specs.Tab.{splice}
 use Rattle.area.proofs.Lent.{fits_at}
 use Rattle.area.specs.Parts.{zero_at}
-use Rattle.std.proofs.Common.{rules}
 use Rattle.area.proofs.zero_part.Goals as goal
 
 pub overflow_mul-at : goal.overflow_mul-at

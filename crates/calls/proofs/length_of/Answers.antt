@@ -2,11 +2,10 @@
 -- Assumes nothing.
 use mathlib.Core.Path.{sym, ◌∙◌}
 use native.Mathlib.Omega.{arith}
-use borrow.Author.Tests.{eq-eqb, ne_eqb, not-true, not-false}
+use borrow.Author.Tests.{eq-eqb, ne_eqb}
 use Rattle.model.specs.Causes.{first_of}
 use Rattle.place.proofs.Laws.{sound_says}
 use Rattle.calls.specs.Calls.{length_says}
-use Rattle.std.proofs.Common.{rules}
 use Rattle.calls.proofs.length_of.Goals as goal
 
 pub returns-then-not-is_sound : goal.returns-then-not-is_sound

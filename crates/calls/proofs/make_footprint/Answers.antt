@@ -6,7 +6,6 @@ use lib.ListN.{length}
 use Rattle.links.proofs.Picks.{lent_end, first_room}
 use Rattle.place.specs.Places.{charged}
 use Rattle.calls.proofs.Loops.{unions_made}
-use Rattle.std.proofs.Common.{rules}
 use Rattle.calls.proofs.make_footprint.Goals as goal
 
 pub slice_bounds-copy_over-end : goal.slice_bounds-copy_over-end
@@ -25,8 +24,7 @@ charged-requires c =
     (omega (arith, c.requires.5), omega (arith, c.unite_picks-made.ensures.0, c.requires.3))
 
 pub returns : goal.returns
-returns c =
-    (
-      c.charged.ensures ∙ ap (charged c.args.p) c.unite_picks-made.ensures.0,
-      unions_made _ _ _ _ _ c.requires.2 c.copy_over.ensures c.unite_picks-made.ensures.1,
-    )
+returns c = (
+  c.charged.ensures ∙ ap (charged c.args.p) c.unite_picks-made.ensures.0,
+  unions_made _ _ _ _ _ c.requires.2 c.copy_over.ensures c.unite_picks-made.ensures.1,
+)

@@ -6,7 +6,6 @@ use Rattle.place.specs.Places.{nowhere}
 use Rattle.verdicts.specs.Verdicts.{verdict_says}
 use Rattle.verdicts.proofs.Verdicts.{open_sound, open_clears}
 use Rattle.calls.specs.Calls.{open_says, open_leaves}
-use Rattle.std.proofs.Common.{rules}
 use Rattle.calls.proofs.open.Goals as goal
 
 pub open_area-requires : goal.open_area-requires

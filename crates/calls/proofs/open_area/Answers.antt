@@ -6,7 +6,6 @@ use borrow.Author.Tests.{eq-eqb, ne_eqb}
 use Rattle.measures.proofs.Words.{size_links}
 use Rattle.verdicts.proofs.Verdicts.{third_part}
 use Rattle.calls.specs.Calls.{opened_area}
-use Rattle.std.proofs.Common.{rules}
 use Rattle.calls.proofs.open_area.Goals as goal
 
 pub returns-then-measure-ne2 : goal.returns-then-measure-ne2

@@ -9,7 +9,6 @@ use Rattle.verdicts.proofs.Verdicts.{pick_sound}
 use Rattle.steps.specs.Walk.{State}
 use Rattle.steps.proofs.Ready.{sound_takes}
 use Rattle.calls.proofs.Taken.{taken_state, refused_state}
-use Rattle.std.proofs.Common.{rules}
 use Rattle.calls.proofs.pick.Goals as goal
 
 pub take_pick-requires : goal.take_pick-requires

@@ -2,7 +2,6 @@
 -- Assumes nothing.
 use borrow.Author.Tests.{eq-eqb, ne_eqb, lt-ltb, le-ltb}
 use Rattle.steps.specs.Walk.{reported}
-use Rattle.std.proofs.Common.{rules}
 use Rattle.calls.proofs.report.Goals as goal
 
 pub returns-then-p : goal.returns-then-p

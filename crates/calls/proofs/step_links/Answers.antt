@@ -4,7 +4,6 @@ use mathlib.Core.Path.{◌∙◌, refl}
 use Rattle.lists.proofs.Zeros.{lent_length}
 use Rattle.measures.proofs.Words.{size_links}
 use Rattle.steps.proofs.Closes.{takes_enters}
-use Rattle.std.proofs.Common.{rules}
 use Rattle.calls.proofs.step_links.Goals as goal
 
 pub step-requires : goal.step-requires

@@ -9,7 +9,6 @@ use Rattle.lists.proofs.Tab.{length-zeros}
 use Rattle.measures.specs.Kit.{size_of}
 use Rattle.area.proofs.Lent.{size_most}
 use Rattle.steps.proofs.Closes.{takes_enters}
-use Rattle.std.proofs.Common.{rules}
 use Rattle.calls.proofs.step_times.Goals as goal
 
 pub slice_bounds-right-end : goal.slice_bounds-right-end

@@ -6,7 +6,6 @@ use Rattle.model.proofs.Refusals.{number_some}
 use Rattle.verdicts.specs.Verdicts.{verdict_says}
 use Rattle.verdicts.proofs.Verdicts.{whole_sound}
 use Rattle.calls.specs.Calls.{whole_says, whole_leaves}
-use Rattle.std.proofs.Common.{rules}
 use Rattle.calls.proofs.whole.Goals as goal
 
 pub nonzero_div-m : goal.nonzero_div-m

@@ -3,7 +3,6 @@
 use mathlib.Core.Path.{◌∙◌}
 use Rattle.lists.proofs.Zeros.{lent_length}
 use Rattle.measures.proofs.Words.{size_links}
-use Rattle.std.proofs.Common.{rules}
 use Rattle.calls.proofs.whole_links.Goals as goal
 
 pub whole_steps-requires : goal.whole_steps-requires

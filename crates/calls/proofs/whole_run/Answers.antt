@@ -6,7 +6,6 @@ use Rattle.place.specs.declared.Place.{Place}
 use Rattle.steps.specs.Walk.{reported}
 use Rattle.calls.specs.Calls.{report_says, whole_start, whole_report}
 use Rattle.calls.proofs.Loops.{whole_starts, whole_ends, whole_beyond, list-cost}
-use Rattle.std.proofs.Common.{rules}
 use Rattle.calls.proofs.whole_run.Goals as goal
 
 pub take_picks-q-requires : goal.take_picks-q-requires

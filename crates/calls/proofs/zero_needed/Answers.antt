@@ -1,6 +1,5 @@
 -- `calls::zero_needed` meets its contract. Assumes nothing.
 use mathlib.Core.Path.{◌∙◌}
-use Rattle.std.proofs.Common.{rules}
 use Rattle.calls.proofs.zero_needed.Goals as goal
 
 pub zero_first-requires : goal.zero_first-requires

@@ -6,7 +6,6 @@ use Rattle.lists.specs.Tab.{tab}
 use Rattle.lists.proofs.Splice.{written_first}
 use Rattle.links.specs.Tables.{without}
 use Rattle.checks.specs.Checks.{all_open}
-use Rattle.std.proofs.Common.{rules}
 use Rattle.checks.proofs.all_open.Goals as goal
 
 pub returns : goal.returns

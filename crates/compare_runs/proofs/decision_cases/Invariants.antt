@@ -2,8 +2,7 @@
 -- Assumes nothing.
 use mathlib.Core.Path.{◌≡◌}
 use lib.ListN.{length}
-use Prim.Native.Nat.{◌-◌, ◌≤◌}
-use Rattle.std.proofs.Common.{rules}
+use Prim.Native.Nat.{◌≤◌}
 use Rattle.compare_runs.proofs.decision_cases.Given as goal
 
 abbrev pub invariant-loop-k : goal.invariant-loop-k

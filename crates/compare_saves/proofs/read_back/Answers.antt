@@ -1,6 +1,6 @@
 -- `compare_saves::read_back` is safe and ends.
 -- Assumes nothing.
-use Rattle.std.proofs.Common.{mul-le-mul, arith, rules}
+use Rattle.std.proofs.Common.{mul-le-mul, arith}
 use Rattle.compare_saves.proofs.read_back.Goals as goal
 
 pub overflow_mul-room : goal.overflow_mul-room

@@ -2,8 +2,6 @@
 -- Assumes nothing.
 use mathlib.Core.Path.{◌≡◌}
 use lib.ListN.{length}
-use Prim.Native.Nat.{◌-◌}
-use Rattle.std.proofs.Common.{rules}
 use Rattle.compare_walks.proofs.put_list.Given as goal
 
 abbrev pub invariant-loop-u : goal.invariant-loop-u

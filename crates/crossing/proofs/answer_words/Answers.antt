@@ -3,7 +3,6 @@
 use mathlib.Core.Path.{ap, subst}
 use Rattle.calls.specs.Answers.{answer_says}
 use Rattle.crossing.specs.Words.{NarrowAnswer}
-use Rattle.std.proofs.Common.{rules}
 use Rattle.crossing.proofs.answer_words.Goals as goal
 
 pub narrow-requires : goal.narrow-requires

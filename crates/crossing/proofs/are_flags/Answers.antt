@@ -1,8 +1,6 @@
 -- `crossing::are_flags` meets its contract.
 -- Assumes nothing.
-use borrow.Author.Tests.{not-true, not-false}
 use mathlib.Core.Path.{sym, ◌∙◌}
-use Rattle.std.proofs.Common.{rules}
 use Rattle.model.proofs.Logic.{and_step, and_stop}
 use Rattle.crossing.proofs.are_flags.Goals as goal
 

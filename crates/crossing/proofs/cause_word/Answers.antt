@@ -3,7 +3,6 @@
 use native.Mathlib.Omega.{arith}
 use Rattle.model.proofs.Refusals.{number_range}
 use Rattle.crossing.proofs.Fits.{small}
-use Rattle.std.proofs.Common.{rules}
 use Rattle.crossing.proofs.cause_word.Goals as goal
 
 pub narrow-requires : goal.narrow-requires

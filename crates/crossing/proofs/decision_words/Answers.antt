@@ -3,7 +3,6 @@
 use mathlib.Core.Path.{ap, subst}
 use Rattle.decision.specs.Decisions.{decision_says}
 use Rattle.crossing.specs.Words.{NarrowDecision}
-use Rattle.std.proofs.Common.{rules}
 use Rattle.crossing.proofs.decision_words.Goals as goal
 
 pub narrow-requires : goal.narrow-requires

@@ -1,7 +1,6 @@
 -- `crossing::place_of` meets its contract.
 -- Assumes nothing.
 use Rattle.crossing.specs.Words.{place_of}
-use Rattle.std.proofs.Common.{rules}
 use Rattle.crossing.proofs.place_of.Goals as goal
 
 pub returns : goal.returns

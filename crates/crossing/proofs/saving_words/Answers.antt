@@ -3,7 +3,6 @@
 use mathlib.Core.Path.{ap, subst}
 use Rattle.saving.specs.Answers.{saving_says}
 use Rattle.crossing.specs.Words.{NarrowSaved}
-use Rattle.std.proofs.Common.{rules}
 use Rattle.crossing.proofs.saving_words.Goals as goal
 
 pub narrow-requires : goal.narrow-requires

@@ -1,7 +1,6 @@
 -- `crossing::words_of` meets its contract.
 -- Assumes nothing.
 use Rattle.crossing.specs.Words.{words_of}
-use Rattle.std.proofs.Common.{rules}
 use Rattle.crossing.proofs.words_of.Goals as goal
 
 pub returns : goal.returns

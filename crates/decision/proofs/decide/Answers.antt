@@ -7,7 +7,6 @@ use Rattle.verdicts.specs.Verdicts.{verdict_says}
 use Rattle.model.proofs.Refusals.{number_some}
 use native.Mathlib.Omega.{arith}
 use mathlib.Core.Path.{sym, ap, ◌∙◌}
-use Rattle.std.proofs.Common.{rules}
 use Rattle.decision.proofs.decide.Goals as goal
 
 pub nonzero_div-m : goal.nonzero_div-m

@@ -7,26 +7,23 @@ use Rattle.calls.specs.Calls.{whole_start}
 use Rattle.calls.proofs.Loops.{whole_starts, whole_beyond, list-cost}
 use Rattle.decision.specs.Decisions.{decided_at, decision_report}
 use Rattle.decision.proofs.Held.{held_ends}
-use Rattle.std.proofs.Common.{rules}
 use Rattle.decision.proofs.decide_run.Goals as goal
 
 pub hold_window-q-requires : goal.hold_window-q-requires
 unfolding whole_start
-hold_window-q-requires c =
-    (
-      whole_starts _ _ _ _ _ _ c.requires.0 (list-cost c.args.measure c.args.m c.requires.0.cap) c.whole_start-p.ensures.place
-          c.whole_start-p.auto.area,
-      c.requires.1,
-    )
+hold_window-q-requires c = (
+  whole_starts _ _ _ _ _ _ c.requires.0 (list-cost c.args.measure c.args.m c.requires.0.cap) c.whole_start-p.ensures.place
+      c.whole_start-p.auto.area,
+  c.requires.1,
+)
 
 pub zero_needed-requires : goal.zero_needed-requires
-zero_needed-requires c =
-    (
-      c.requires.0.few,
-      c.requires.0.cap,
-      subst (λ (x : ℕ). needed c.args.measure c.args.n c.args.m ≤ x) (sym (c.hold_window-q.auto.area ∙ c.whole_start-p.auto.area))
-          c.requires.0.room,
-    )
+zero_needed-requires c = (
+  c.requires.0.few,
+  c.requires.0.cap,
+  subst (λ (x : ℕ). needed c.args.measure c.args.n c.args.m ≤ x) (sym (c.hold_window-q.auto.area ∙ c.whole_start-p.auto.area))
+      c.requires.0.room,
+)
 
 pub returns : goal.returns
 unfolding decision_report

@@ -7,7 +7,6 @@ use Rattle.model.proofs.Causes.{causes_before, causes_after}
 use Rattle.verdicts.specs.Verdicts.{verdict_says, whole_causes, whole_verdict}
 use Rattle.verdicts.proofs.Verdicts.{whole_sound}
 use Rattle.decision.specs.Decisions.{decision_verdict}
-use Rattle.std.proofs.Common.{rules}
 use Rattle.decision.proofs.decision_verdict.Goals as goal
 
 pub nonzero_div-words : goal.nonzero_div-words

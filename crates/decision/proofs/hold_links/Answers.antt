@@ -3,7 +3,6 @@
 use Rattle.measures.proofs.Words.{size_links}
 use Rattle.lists.proofs.Zeros.{lent_length}
 use mathlib.Core.Path.{◌∙◌}
-use Rattle.std.proofs.Common.{rules}
 use Rattle.decision.proofs.hold_links.Goals as goal
 
 pub hold_picks-requires : goal.hold_picks-requires

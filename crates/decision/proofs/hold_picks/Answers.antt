@@ -1,14 +1,11 @@
 -- `decision::hold_picks` meets its contract. The invariant: the state is that of j picks, `AfterPicks`, and where the window begins.
 -- Assumes nothing.
-use Rattle.decision.proofs.Held.{held_enters, unkept_along, held_bare, held_none, held_next, held_failed, held_end, held_first}
-use Rattle.calls.proofs.Loops.{AfterPicks, along_start}
+use Rattle.decision.proofs.Held.{held_enters, unkept_along, held_none, held_next, held_failed, held_end, held_first}
+use Rattle.calls.proofs.Loops.{along_start}
 use Rattle.steps.proofs.Fit.{lends_kept}
-use Rattle.steps.specs.Walk.{state}
 use Rattle.links.proofs.Picks.{lent_end, lent_part}
-use lib.ListN.{length}
 use native.Mathlib.Omega.{arith}
-use Prim.Native.Nat.{◌+◌, ◌-◌}
-use mathlib.Core.Path.{◌≡◌, refl, ◌∙◌}
+use mathlib.Core.Path.{refl, ◌∙◌}
 use Rattle.std.proofs.Common.{rules}
 use Rattle.decision.proofs.hold_picks.Goals as goal
 

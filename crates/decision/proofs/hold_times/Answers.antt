@@ -8,7 +8,6 @@ use lib.ListN.{length}
 use native.Mathlib.Omega.{arith}
 use Prim.Native.Nat.{ℕ}
 use mathlib.Core.Path.{ap, sym, ◌∙◌}
-use Rattle.std.proofs.Common.{rules}
 use Rattle.decision.proofs.hold_times.Goals as goal
 
 pub slice_bounds-right-end : goal.slice_bounds-right-end

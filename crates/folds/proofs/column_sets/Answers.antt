@@ -1,6 +1,6 @@
 -- `folds::column_sets` meets its contract.
 -- Assumes nothing.
-use Rattle.std.proofs.Common.{◌∙◌, rules}
+use Rattle.std.proofs.Common.{◌∙◌}
 use Rattle.folds.proofs.column_sets.Goals as goal
 
 pub returns : goal.returns

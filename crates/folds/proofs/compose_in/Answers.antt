@@ -1,6 +1,6 @@
 -- `folds::compose_in` meets its contract. What the two callees ensure of the halves, put together by `halves`.
 -- Assumes nothing.
-use Rattle.std.proofs.Common.{◌*◌, length, drop, sym, ap, ◌∙◌, rules}
+use Rattle.std.proofs.Common.{◌*◌, length, drop, sym, ap, ◌∙◌}
 use Rattle.times.specs.Times.{arrival, departure, arrivals, departures, compose_times}
 use Rattle.times.proofs.Cells.{length-rows}
 use Rattle.times.proofs.Rows.{from_start, halves, half_left}

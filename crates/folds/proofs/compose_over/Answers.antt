@@ -1,6 +1,6 @@
 -- `folds::compose_over` meets its contract.
 -- Assumes nothing.
-use Rattle.std.proofs.Common.{length, ap, ◌∙◌, arith, rules}
+use Rattle.std.proofs.Common.{length, ap, ◌∙◌, arith}
 use Rattle.lists.proofs.Tab.{length-zeros}
 use Rattle.lists.proofs.Zeros.{lent_length}
 use Rattle.times.proofs.Rows.{half_few}

@@ -1,8 +1,7 @@
 -- `folds::fold` meets its contract. The invariant is `Made`; word v is read before it is written (`made_read`).
 -- Assumes nothing.
-use Rattle.std.proofs.Common.{◌-◌, ◌∙◌, rules}
-use Rattle.lists.proofs.Tab.{Made, made_start, made_turn, made_read, made_all}
-use Rattle.folds.specs.Folds.{each, better}
+use Rattle.std.proofs.Common.{◌∙◌}
+use Rattle.lists.proofs.Tab.{made_start, made_turn, made_read, made_all}
 use Rattle.folds.proofs.fold.Goals as goal
 
 pub loop-v-init : goal.loop-v-init

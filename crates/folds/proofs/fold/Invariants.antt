@@ -1,7 +1,6 @@
 -- `folds::fold` meets its contract. The invariant is `Made`; word v is read before it is written (`made_read`).
 -- Assumes nothing.
-use Rattle.std.proofs.Common.{◌-◌, ◌∙◌, rules}
-use Rattle.lists.proofs.Tab.{Made, made_start, made_turn, made_read, made_all}
+use Rattle.lists.proofs.Tab.{Made}
 use Rattle.folds.specs.Folds.{each, better}
 use Rattle.folds.proofs.fold.Given as goal
 

@@ -1,10 +1,8 @@
 -- `folds::fold_over` meets its contract. The invariant is `Rowed`: a row is as it was when it takes in its fold.
 -- Assumes nothing.
-use Rattle.std.proofs.Common.{◌-◌, ◌*◌, ◌∙◌, arith, rules}
-use Rattle.times.specs.Times.{cell}
+use Rattle.std.proofs.Common.{◌*◌, ◌∙◌, arith}
 use Rattle.lists.proofs.Splice.{written-part}
-use Rattle.times.proofs.Rows.{row_le, part_length, Rowed, rowed_start, rowed_read, rowed_turn, rowed_all}
-use Rattle.folds.specs.Folds.{joined_row}
+use Rattle.times.proofs.Rows.{row_le, part_length, rowed_start, rowed_read, rowed_turn, rowed_all}
 use Rattle.folds.proofs.Gathered.{joined_lent}
 use Rattle.folds.proofs.fold_over.Goals as goal
 

@@ -1,6 +1,6 @@
 -- `folds::fold_row` meets its contract. No row (`fold_empty`), or the first one and the others (`fold_first`).
 -- Assumes nothing.
-use Rattle.std.proofs.Common.{sym, ◌∙◌, arith, rules}
+use Rattle.std.proofs.Common.{sym, ◌∙◌, arith}
 use Rattle.links.proofs.Bits.{without_lt, bit_below}
 use Rattle.times.proofs.Rows.{row_le}
 use Rattle.folds.proofs.Gathered.{fold_empty, fold_first}

@@ -1,9 +1,7 @@
 -- `folds::fold_rows` meets its contract. The invariant is `Rowed`.
 -- Assumes nothing.
-use Rattle.std.proofs.Common.{◌-◌, rules}
-use Rattle.times.proofs.Rows.{Rowed, rowed_start, rowed_turn, rowed_all}
+use Rattle.times.proofs.Rows.{Rowed}
 use Rattle.folds.specs.Folds.{fold_of}
-use Rattle.folds.proofs.Gathered.{shared}
 use Rattle.folds.proofs.fold_rows.Given as goal
 
 abbrev pub invariant-loop-u : goal.invariant-loop-u

@@ -1,8 +1,8 @@
 -- `folds::fold_set` meets its contract. The invariant is `Folded`.
 -- Assumes nothing.
-use Rattle.std.proofs.Common.{sym, ◌∙◌, arith, rules}
+use Rattle.std.proofs.Common.{sym, ◌∙◌, arith}
 use Rattle.times.proofs.Rows.{row_le, part_length}
-use Rattle.folds.proofs.Gathered.{Folded, folded_start, folded_below, folded_less, folded_next, folded_all}
+use Rattle.folds.proofs.Gathered.{folded_start, folded_below, folded_less, folded_next, folded_all}
 use Rattle.folds.proofs.fold_set.Goals as goal
 
 pub loop-rest-init : goal.loop-rest-init

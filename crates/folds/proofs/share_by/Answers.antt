@@ -1,6 +1,6 @@
 -- `folds::share_by` meets its contract.
 -- Assumes nothing.
-use Rattle.std.proofs.Common.{◌∙◌, arith, rules}
+use Rattle.std.proofs.Common.{◌∙◌, arith}
 use Rattle.lists.proofs.Splice.{written-part}
 use Rattle.times.proofs.Rows.{row_le}
 use Rattle.folds.proofs.share_by.Goals as goal

@@ -1,6 +1,6 @@
 -- `folds::take_fold` meets its contract. A row with its fold, then the own entry (`row_last`).
 -- Assumes nothing.
-use Rattle.std.proofs.Common.{refl, rules}
+use Rattle.std.proofs.Common.{refl}
 use Rattle.times.proofs.Rows.{row_last}
 use Rattle.folds.specs.Folds.{each, better}
 use Rattle.folds.proofs.take_fold.Goals as goal

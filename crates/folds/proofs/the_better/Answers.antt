@@ -1,7 +1,6 @@
 -- `folds::the_better` meets its contract.
 -- Assumes nothing.
 use Rattle.folds.specs.Folds.{better}
-use Rattle.std.proofs.Common.{rules}
 use Rattle.folds.proofs.the_better.Goals as goal
 
 pub returns-then-late : goal.returns-then-late

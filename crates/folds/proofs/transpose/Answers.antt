@@ -1,9 +1,8 @@
 -- `folds::transpose` meets its contract. The invariant is `Rowed`.
 -- Assumes nothing.
-use Rattle.std.proofs.Common.{◌-◌, arith, rules}
-use Rattle.times.specs.Times.{cell}
+use Rattle.std.proofs.Common.{arith}
 use Rattle.lists.proofs.Splice.{written-part}
-use Rattle.times.proofs.Rows.{row_le, Rowed, rowed_start, rowed_turn, rowed_all}
+use Rattle.times.proofs.Rows.{row_le, rowed_start, rowed_turn, rowed_all}
 use Rattle.folds.proofs.transpose.Goals as goal
 
 pub loop-u-init : goal.loop-u-init

@@ -1,9 +1,7 @@
 -- `folds::transpose` meets its contract. The invariant is `Rowed`.
 -- Assumes nothing.
-use Rattle.std.proofs.Common.{◌-◌, arith, rules}
 use Rattle.times.specs.Times.{cell}
-use Rattle.lists.proofs.Splice.{written-part}
-use Rattle.times.proofs.Rows.{row_le, Rowed, rowed_start, rowed_turn, rowed_all}
+use Rattle.times.proofs.Rows.{Rowed}
 use Rattle.folds.proofs.transpose.Given as goal
 
 abbrev pub invariant-loop-u : goal.invariant-loop-u

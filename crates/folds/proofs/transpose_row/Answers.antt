@@ -1,8 +1,7 @@
 -- `folds::transpose_row` meets its contract. The invariant is `Made`.
 -- Assumes nothing.
-use Rattle.std.proofs.Common.{◌-◌, refl, arith, rules}
-use Rattle.lists.proofs.Tab.{Made, made_start, made_turn, made_all}
-use Rattle.times.specs.Times.{cell}
+use Rattle.std.proofs.Common.{refl, arith}
+use Rattle.lists.proofs.Tab.{made_start, made_turn, made_all}
 use Rattle.times.proofs.Rows.{row_le}
 use Rattle.folds.proofs.transpose_row.Goals as goal
 

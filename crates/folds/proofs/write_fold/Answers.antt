@@ -1,6 +1,6 @@
 -- `folds::write_fold` meets its contract. The fold of an earlier row (`same_fold`), or a new one.
 -- Assumes nothing.
-use Rattle.std.proofs.Common.{ℕ, ◌*◌, List, ap, ◌∙◌, arith, rules}
+use Rattle.std.proofs.Common.{ℕ, ◌*◌, List, ap, ◌∙◌, arith}
 use Rattle.lists.specs.Tab.{splice}
 use Rattle.lists.proofs.Splice.{written-part}
 use Rattle.times.proofs.Rows.{row_le}

@@ -1,11 +1,7 @@
 -- `joins::add_column` meets its contract. The invariant is `Made`; word u is read before it is written (`made_read`). A row of zero returns at
 -- once (`no_column`). Assumes nothing.
-use Prim.Native.Nat.{◌-◌}
-use Rattle.model.specs.Recording.{bit, link}
-use Rattle.lists.proofs.Tab.{Made, made_start, made_turn, made_read, made_all}
+use Rattle.lists.proofs.Tab.{Made}
 use Rattle.joins.specs.Columns.{column_row}
-use Rattle.joins.proofs.Rows.{no_column}
-use Rattle.std.proofs.Common.{rules}
 use Rattle.joins.proofs.add_column.Given as goal
 
 abbrev pub invariant-loop-u : goal.invariant-loop-u

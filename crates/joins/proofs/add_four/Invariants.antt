@@ -1,14 +1,8 @@
 -- `joins::add_four` meets its contract. The invariant is `Made`; word u is read before it is written (`made_read`). Four rows of zero return at
 -- once (`no_four`).
 -- Assumes nothing.
-use Prim.Native.Nat.{◌-◌}
-use lib.ListN.{get_or}
-use lib.Pow.{shr-shr}
-use Rattle.model.specs.Recording.{bit, link}
-use Rattle.lists.proofs.Tab.{Made, made_start, made_turn, made_read, made_all}
+use Rattle.lists.proofs.Tab.{Made}
 use Rattle.joins.specs.Columns.{four_row}
-use Rattle.joins.proofs.Rows.{no_four}
-use Rattle.std.proofs.Common.{rules}
 use Rattle.joins.proofs.add_four.Given as goal
 
 abbrev pub invariant-loop-u : goal.invariant-loop-u

@@ -1,12 +1,10 @@
 -- `joins::add_fours` meets its contract. The invariant is the definition at `w`; a turn is `through_four`.
 -- Assumes nothing.
-use mathlib.Core.Path.{◌≡◌, ◌∙◌}
+use mathlib.Core.Path.{◌≡◌}
 use Prim.Native.Nat.{◌≤◌, ◌-◌}
 use lib.ListN.{length}
 use Rattle.lists.specs.Tab.{tab}
 use Rattle.links.specs.Tables.{through_row}
-use Rattle.joins.proofs.Rows.{through_none, through_four}
-use Rattle.std.proofs.Common.{rules}
 use Rattle.joins.proofs.add_fours.Given as goal
 
 abbrev pub invariant-loop-w : goal.invariant-loop-w

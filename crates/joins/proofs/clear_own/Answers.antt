@@ -1,10 +1,8 @@
 -- `joins::clear_own` meets its contract. The invariant is `Made`; word u is read before it is written (`made_read`).
 -- Assumes nothing.
 use mathlib.Core.Path.{◌∙◌}
-use Prim.Native.Nat.{◌-◌}
-use Rattle.lists.proofs.Tab.{Made, made_start, made_turn, made_read, made_all}
+use Rattle.lists.proofs.Tab.{made_start, made_turn, made_read, made_all}
 use Rattle.joins.specs.Warshall.{clear_row}
-use Rattle.std.proofs.Common.{rules}
 use Rattle.joins.proofs.clear_own.Goals as goal
 
 pub loop-u-init : goal.loop-u-init

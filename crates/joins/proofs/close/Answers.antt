@@ -6,7 +6,6 @@ use Rattle.model.proofs.Logic.{tr}
 use Rattle.lists.specs.Tab.{tab}
 use Rattle.links.specs.Tables.{without}
 use Rattle.joins.proofs.Everywhere.{everywhere_within}
-use Rattle.std.proofs.Common.{rules}
 use Rattle.joins.proofs.close.Goals as goal
 
 pub returns-then-is_connected : goal.returns-then-is_connected

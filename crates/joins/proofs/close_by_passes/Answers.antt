@@ -6,7 +6,6 @@ use Prim.Native.Nat.{ℕ}
 use Rattle.lists.specs.Tab.{tab}
 use Rattle.joins.specs.Warshall.{closed, clear_row}
 use Rattle.joins.proofs.Closure.{closed-within}
-use Rattle.std.proofs.Common.{rules}
 use Rattle.joins.proofs.close_by_passes.Goals as goal
 
 pub returns : goal.returns

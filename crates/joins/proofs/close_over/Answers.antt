@@ -3,7 +3,6 @@
 use mathlib.Core.Path.{◌∙◌, ap}
 use Rattle.model.specs.Journey.{most_links}
 use Rattle.links.specs.Tables.{within}
-use Rattle.std.proofs.Common.{rules}
 use Rattle.joins.proofs.close_over.Goals as goal
 
 pub returns : goal.returns

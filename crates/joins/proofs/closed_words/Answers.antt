@@ -6,7 +6,6 @@ use Rattle.model.specs.Journey.{most_links}
 use Rattle.lists.specs.Tab.{splice}
 use Rattle.lists.proofs.Splice.{splice-again, written_first, lent_first}
 use Rattle.links.specs.Tables.{within}
-use Rattle.std.proofs.Common.{rules}
 use Rattle.joins.proofs.closed_words.Goals as goal
 
 pub returns : goal.returns

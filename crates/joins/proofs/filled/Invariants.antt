@@ -1,7 +1,6 @@
 -- `joins::filled` ends: the count is at most u, so that it fits.
 -- Assumes nothing.
-use Prim.Native.Nat.{◌-◌, ◌≤◌}
-use Rattle.std.proofs.Common.{rules}
+use Prim.Native.Nat.{◌≤◌}
 use Rattle.joins.proofs.filled.Given as goal
 
 abbrev pub invariant-loop-u : goal.invariant-loop-u

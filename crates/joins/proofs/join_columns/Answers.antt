@@ -2,7 +2,6 @@
 -- Assumes nothing.
 use mathlib.Core.Path.{◌∙◌}
 use Rattle.joins.proofs.Rows.{clear_through}
-use Rattle.std.proofs.Common.{rules}
 use Rattle.joins.proofs.join_columns.Goals as goal
 
 pub returns : goal.returns

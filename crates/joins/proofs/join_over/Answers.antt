@@ -5,7 +5,6 @@ use mathlib.Core.List.{List}
 use Prim.Native.Nat.{ℕ}
 use Rattle.lists.proofs.Splice.{lent_first}
 use Rattle.links.specs.Tables.{compose}
-use Rattle.std.proofs.Common.{rules}
 use Rattle.joins.proofs.join_over.Goals as goal
 
 pub returns-then-filled-le8 : goal.returns-then-filled-le8

@@ -1,10 +1,7 @@
 -- `joins::join_rows` meets its contract. The invariant is `Made`; word u is read before it is written (`made_read`).
 -- Assumes nothing.
-use mathlib.Core.Path.{◌∙◌}
-use Prim.Native.Nat.{◌-◌}
-use Rattle.lists.proofs.Tab.{Made, made_start, made_turn, made_read, made_all}
+use Rattle.lists.proofs.Tab.{Made}
 use Rattle.joins.specs.LookUps.{looked_row}
-use Rattle.std.proofs.Common.{rules}
 use Rattle.joins.proofs.join_rows.Given as goal
 
 abbrev pub invariant-loop-u : goal.invariant-loop-u

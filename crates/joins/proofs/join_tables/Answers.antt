@@ -1,7 +1,6 @@
 -- `joins::join_tables` meets its contract: what is looked up in the tables of the padded later part is the composition (`looked-compose`).
 -- Assumes nothing.
 use Rattle.joins.proofs.LookUps.{looked-compose}
-use Rattle.std.proofs.Common.{rules}
 use Rattle.joins.proofs.join_tables.Goals as goal
 
 pub returns : goal.returns

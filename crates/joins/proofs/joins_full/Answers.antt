@@ -2,7 +2,6 @@
 -- (`looked-full`).
 -- Assumes nothing.
 use Rattle.joins.proofs.LookUps.{looked-full}
-use Rattle.std.proofs.Common.{rules}
 use Rattle.joins.proofs.joins_full.Goals as goal
 
 pub returns : goal.returns

@@ -1,9 +1,7 @@
 -- `joins::pass_if` meets its contract. A pass over a board that no row links to changes nothing (`no_pass`).
 -- Assumes nothing.
 use mathlib.Core.Path.{sym, ◌∙◌}
-use borrow.Author.Tests.{not-true}
 use Rattle.joins.proofs.Closure.{no_pass}
-use Rattle.std.proofs.Common.{rules}
 use Rattle.joins.proofs.pass_if.Goals as goal
 
 pub returns-then-not-linked : goal.returns-then-not-linked

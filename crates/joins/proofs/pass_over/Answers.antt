@@ -1,12 +1,10 @@
 -- `joins::pass_over` meets its contract. The invariant is `Made`; word u is read before it is written (`made_read`). A row of zero returns at
 -- once (`no_column`). Assumes nothing.
-use Prim.Native.Nat.{◌-◌}
 use Rattle.model.specs.Recording.{bit, link}
-use Rattle.lists.proofs.Tab.{Made, made_start, made_turn, made_read, made_all}
+use Rattle.lists.proofs.Tab.{made_start, made_turn, made_read, made_all}
 use Rattle.joins.specs.Columns.{column_row}
 use Rattle.joins.specs.Warshall.{pass}
 use Rattle.joins.proofs.Rows.{no_column}
-use Rattle.std.proofs.Common.{rules}
 use Rattle.joins.proofs.pass_over.Goals as goal
 
 pub returns-then-row-eq0 : goal.returns-then-row-eq0

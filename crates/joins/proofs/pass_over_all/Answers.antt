@@ -1,10 +1,8 @@
 -- `joins::pass_over_all` meets its contract. The invariant is the definition at `w`; a turn is `passes-next`.
 -- Assumes nothing.
 use mathlib.Core.Path.{◌≡◌, sym, ◌∙◌}
-use Prim.Native.Nat.{◌≤◌, ◌-◌}
 use native.Mathlib.Omega.{arith}
-use lib.ListN.{length}
-use Rattle.joins.specs.Warshall.{passes, Into}
+use Rattle.joins.specs.Warshall.{passes}
 use Rattle.joins.proofs.Closure.{into_pass}
 use Rattle.joins.proofs.Everywhere.{led_into}
 use Rattle.joins.proofs.Rows.{passes-next}

@@ -1,7 +1,6 @@
 -- `joins::tables` meets its contract.
 -- Assumes nothing.
 use Rattle.joins.specs.LookUps.{tables_from}
-use Rattle.std.proofs.Common.{rules}
 use Rattle.joins.proofs.tables.Goals as goal
 
 pub returns : goal.returns

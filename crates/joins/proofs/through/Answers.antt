@@ -3,7 +3,6 @@
 use native.Mathlib.Nat.{one-mul, mod-eq_of_lt}
 use lib.Pow.{pow-lt}
 use Rattle.joins.specs.LookUps.{looked, looked_word}
-use Rattle.std.proofs.Common.{rules}
 use Rattle.joins.proofs.through.Goals as goal
 
 pub returns : goal.returns

@@ -3,7 +3,6 @@
 use lib.Bits.{bit_or, or_zero_l, or_zero_r}
 use Rattle.joins.specs.LookUps.{four_of, unions_of}
 use Rattle.joins.proofs.LookUps.{unions-tab}
-use Rattle.std.proofs.Common.{rules}
 use Rattle.joins.proofs.unions.Goals as goal
 
 pub returns : goal.returns

@@ -2,7 +2,6 @@
 -- Assumes nothing.
 use mathlib.Core.Path.{sym}
 use lib.Seq.{length-take-le}
-use Rattle.std.proofs.Common.{rules}
 use Rattle.lengths.proofs.main.Goals as goal
 
 pub slice_bounds-write_all-end : goal.slice_bounds-write_all-end

@@ -5,7 +5,6 @@ use native.Mathlib.Omega.{arith}
 use borrow.Author.Tests.{eq-eqb, ne_eqb, lt-ltb, le-ltb}
 use Rattle.area.proofs.Lent.{width_most}
 use Rattle.lengths_text.specs.LengthsText.{row_of}
-use Rattle.std.proofs.Common.{rules}
 use Rattle.lengths_text.proofs.answer_of.Goals as goal
 
 pub returns-then-picks-eq0 : goal.returns-then-picks-eq0

@@ -2,7 +2,6 @@
 -- Assumes nothing.
 use Rattle.model.proofs.Refusals.{number_some}
 use Rattle.lengths_text.specs.LengthsText.{line_of}
-use Rattle.std.proofs.Common.{rules}
 use Rattle.lengths_text.proofs.put_answer.Goals as goal
 
 pub returns-in-Length : goal.returns-in-Length

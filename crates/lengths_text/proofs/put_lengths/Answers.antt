@@ -5,7 +5,6 @@ use native.Mathlib.Omega.{arith}
 use Rattle.recording.specs.Answers.{reading_says}
 use Rattle.recording.proofs.Laws.{read_law}
 use Rattle.lengths_text.proofs.Lines.{both_read, of_read, of_refused}
-use Rattle.std.proofs.Common.{rules}
 use Rattle.lengths_text.proofs.put_lengths.Goals as goal
 
 pub overflow_mul-total : goal.overflow_mul-total
@@ -22,14 +21,14 @@ put_measures-requires c = let g = read_law _ _ _ _ _ (sym c.read.ensures.0 ∙ a
 
 pub returns-in-Read : goal.returns-in-Read
 returns-in-Read c = let z = both_read _ _ _ _ _ _ _ c.put_text-at.ensures c.put_measures.ensures.0 in (
-      omega (arith, c.put_measures.ensures.1, c.put_measures.auto.out, c.put_text-at.ensures.behind, c.put_text-at.auto.buf, c.requires),
-      z.0 ∙ of_read _ _ c.no_picks-words.ensures.0 _ _ _ (sym c.read.ensures.0 ∙ ap reading_says c.in-Read.is) c.read.ensures.1,
-      z.1,
-    )
+  omega (arith, c.put_measures.ensures.1, c.put_measures.auto.out, c.put_text-at.ensures.behind, c.put_text-at.auto.buf, c.requires),
+  z.0 ∙ of_read _ _ c.no_picks-words.ensures.0 _ _ _ (sym c.read.ensures.0 ∙ ap reading_says c.in-Read.is) c.read.ensures.1,
+  z.1,
+)
 
 pub returns-in-Refused : goal.returns-in-Refused
 returns-in-Refused c = let z = both_read _ _ _ _ _ _ _ c.put_text-at.ensures (rw c.number_of.ensures at c.put_line.ensures.0) in (
-      omega (arith, c.put_line.ensures.1, c.put_line.auto.buf, c.put_text-at.ensures.behind, c.put_text-at.auto.buf, c.requires),
-      z.0 ∙ of_refused _ _ c.no_picks-words.ensures.0 c.in-Refused.r (sym c.read.ensures.0 ∙ ap reading_says c.in-Refused.is),
-      z.1,
-    )
+  omega (arith, c.put_line.ensures.1, c.put_line.auto.buf, c.put_text-at.ensures.behind, c.put_text-at.auto.buf, c.requires),
+  z.0 ∙ of_refused _ _ c.no_picks-words.ensures.0 c.in-Refused.r (sym c.read.ensures.0 ∙ ap reading_says c.in-Refused.is),
+  z.1,
+)

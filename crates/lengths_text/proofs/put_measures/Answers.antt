@@ -1,9 +1,7 @@
 -- `lengths_text::put_measures` meets its contract. The invariant is `Printed`.
 -- Assumes nothing.
-use Prim.Native.Nat.{◌-◌}
 use native.Mathlib.Omega.{arith}
-use Rattle.lengths_text.proofs.Lines.{Printed, printed_start, printed_turn, printed_whole}
-use Rattle.std.proofs.Common.{rules}
+use Rattle.lengths_text.proofs.Lines.{printed_start, printed_turn, printed_whole}
 use Rattle.lengths_text.proofs.put_measures.Goals as goal
 
 pub loop-m-init : goal.loop-m-init

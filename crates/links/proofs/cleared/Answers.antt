@@ -3,7 +3,6 @@
 use lib.Pow.{pow-lt}
 use native.Mathlib.Nat.{one-mul, mod-eq_of_lt}
 use Rattle.links.specs.Tables.{without}
-use Rattle.std.proofs.Common.{rules}
 use Rattle.links.proofs.cleared.Goals as goal
 
 pub returns : goal.returns

@@ -1,9 +1,6 @@
 -- `links::fill_rows` meets its contract. The invariant is `Made`.
 -- Assumes nothing.
-use Prim.Native.Nat.{◌-◌}
-use Rattle.lists.proofs.Tab.{Made, made_start, made_turn, made_all}
-use Rattle.links.specs.Tables.{without}
-use Rattle.std.proofs.Common.{rules}
+use Rattle.lists.proofs.Tab.{made_start, made_turn, made_all}
 use Rattle.links.proofs.fill_rows.Goals as goal
 
 pub loop-u-init : goal.loop-u-init

@@ -1,9 +1,7 @@
 -- `links::fill_rows` meets its contract. The invariant is `Made`.
 -- Assumes nothing.
-use Prim.Native.Nat.{◌-◌}
-use Rattle.lists.proofs.Tab.{Made, made_start, made_turn, made_all}
+use Rattle.lists.proofs.Tab.{Made}
 use Rattle.links.specs.Tables.{without}
-use Rattle.std.proofs.Common.{rules}
 use Rattle.links.proofs.fill_rows.Given as goal
 
 abbrev pub invariant-loop-u : goal.invariant-loop-u

@@ -1,13 +1,10 @@
 -- `links::is_same` meets its contract: the bits gathered are none exactly when each word so far is the same (`bad_turn_same`).
 -- Assumes nothing.
 use mathlib.Core.Path.{◌≡◌, refl, sym}
-use Prim.Native.Nat.{◌-◌, ◌≤◌}
 use native.Mathlib.Omega.{arith}
-use lib.Dec.{eqb}
-use Rattle.lists.specs.Tab.{every}
 use Rattle.lists.proofs.Tab.{every_none}
 use Rattle.links.proofs.Gather.{bad_turn_same}
-use Rattle.links.specs.Tables.{row_same, same}
+use Rattle.links.specs.Tables.{same}
 use Rattle.std.proofs.Common.{rules}
 use Rattle.links.proofs.is_same.Goals as goal
 

@@ -1,7 +1,6 @@
 -- `links::low_bits` meets its contract.
 -- Assumes nothing.
 use Rattle.model.proofs.Ones.{low_ones}
-use Rattle.std.proofs.Common.{rules}
 use Rattle.links.proofs.low_bits.Goals as goal
 
 pub returns-then-n-eq0 : goal.returns-then-n-eq0

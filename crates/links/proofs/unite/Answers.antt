@@ -1,10 +1,8 @@
 -- `links::unite` meets its contract. The invariant is `Made`.
 -- Assumes nothing.
 use mathlib.Core.Path.{refl}
-use Prim.Native.Nat.{◌-◌}
-use Rattle.lists.proofs.Tab.{Made, made_start, made_turn, made_all}
+use Rattle.lists.proofs.Tab.{made_start, made_turn, made_all}
 use Rattle.links.specs.Tables.{either_row, union}
-use Rattle.std.proofs.Common.{rules}
 use Rattle.links.proofs.unite.Goals as goal
 
 pub loop-u-init : goal.loop-u-init

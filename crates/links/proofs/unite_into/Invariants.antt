@@ -1,9 +1,7 @@
 -- `links::unite_into` meets its contract. The invariant is `Made`; word u is read before it is written (`made_read`).
 -- Assumes nothing.
-use Prim.Native.Nat.{◌-◌}
-use Rattle.lists.proofs.Tab.{Made, made_start, made_turn, made_read, made_all}
-use Rattle.links.specs.Tables.{either_row, union}
-use Rattle.std.proofs.Common.{rules}
+use Rattle.lists.proofs.Tab.{Made}
+use Rattle.links.specs.Tables.{either_row}
 use Rattle.links.proofs.unite_into.Given as goal
 
 abbrev pub invariant-loop-u : goal.invariant-loop-u

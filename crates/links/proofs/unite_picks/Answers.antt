@@ -1,9 +1,7 @@
 -- `links::unite_picks` meets its contract. The invariant is `United`.
 -- Assumes nothing.
-use Prim.Native.Nat.{◌-◌}
 use native.Mathlib.Omega.{arith}
-use Rattle.links.proofs.Picks.{lent_end, lent_part, lent_room, United, united_start, united_turn, united_all}
-use Rattle.std.proofs.Common.{rules}
+use Rattle.links.proofs.Picks.{lent_end, lent_part, lent_room, united_start, united_turn, united_all}
 use Rattle.links.proofs.unite_picks.Goals as goal
 
 pub loop-k-init : goal.loop-k-init

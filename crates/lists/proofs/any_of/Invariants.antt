@@ -1,12 +1,9 @@
 -- `lists::any_of` meets its contract. The invariant is the definition at i.
 -- Assumes nothing.
 use mathlib.Core.Path.{◌≡◌}
-use Prim.Native.Nat.{◌-◌, ◌≤◌}
-use native.Mathlib.Omega.{arith}
-use native.Mathlib.Numerals.{add-one}
+use Prim.Native.Nat.{◌≤◌}
 use lib.ListN.{get_or}
 use Rattle.lists.specs.Tab.{any_of}
-use Rattle.std.proofs.Common.{rules}
 use Rattle.lists.proofs.any_of.Given as goal
 
 abbrev pub invariant-loop-i : goal.invariant-loop-i

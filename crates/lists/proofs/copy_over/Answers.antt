@@ -1,9 +1,7 @@
 -- `lists::copy_over` meets its contract. The invariant is `Copied`.
 -- Assumes nothing.
-use Prim.Native.Nat.{◌-◌}
 use native.Mathlib.Omega.{arith}
-use Rattle.lists.proofs.Splice.{Copied, copied_start, copied_turn, copied_whole}
-use Rattle.std.proofs.Common.{rules}
+use Rattle.lists.proofs.Splice.{copied_start, copied_turn, copied_whole}
 use Rattle.lists.proofs.copy_over.Goals as goal
 
 pub loop-u-init : goal.loop-u-init

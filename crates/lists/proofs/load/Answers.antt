@@ -1,11 +1,9 @@
 -- `lists::load` meets its contract. The invariant is `Copied`.
 -- Assumes nothing.
-use mathlib.Core.Path.{◌≡◌, ◌∙◌, ap, sym}
-use Prim.Native.Nat.{◌-◌}
+use mathlib.Core.Path.{◌∙◌, ap, sym}
 use native.Mathlib.Omega.{arith}
 use lib.ListN.{length}
-use Rattle.lists.specs.Tab.{zeros}
-use Rattle.lists.proofs.Splice.{Copied, copied_start, copied_turn, copied_all}
+use Rattle.lists.proofs.Splice.{copied_start, copied_turn, copied_all}
 use Rattle.lists.proofs.Tab.{length-zeros}
 use Rattle.std.proofs.Common.{rules}
 use Rattle.lists.proofs.load.Goals as goal

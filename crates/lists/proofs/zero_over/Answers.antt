@@ -1,8 +1,6 @@
 -- `lists::zero_over` meets its contract. Assumes nothing.
-use Rattle.lists.proofs.Tab.{Made, made_start, made_turn, made_all, zero_word, tab_zero}
+use Rattle.lists.proofs.Tab.{made_start, made_turn, made_all, tab_zero}
 use mathlib.Core.Path.{refl, ◌∙◌}
-use Prim.Native.Nat.{◌-◌}
-use Rattle.std.proofs.Common.{rules}
 use Rattle.lists.proofs.zero_over.Goals as goal
 
 pub loop-u-init : goal.loop-u-init

@@ -2,7 +2,6 @@
 -- Assumes nothing.
 use mathlib.Core.Path.{◌∙◌}
 use Rattle.measures.proofs.Words.{join_union, join_common}
-use Rattle.std.proofs.Common.{rules}
 use Rattle.measures.proofs.compose_words.Goals as goal
 
 pub returns-then-measure-eq2 : goal.returns-then-measure-eq2

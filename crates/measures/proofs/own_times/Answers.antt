@@ -4,7 +4,6 @@ use mathlib.Core.Path.{◌∙◌}
 use Rattle.lists.proofs.Splice.{lent_first}
 use Rattle.links.proofs.Ways.{length-within}
 use Rattle.measures.specs.Kit.{hops01}
-use Rattle.std.proofs.Common.{rules}
 use Rattle.measures.proofs.own_times.Goals as goal
 
 pub returns : goal.returns

@@ -3,7 +3,6 @@
 use mathlib.Core.Path.{◌∙◌}
 use borrow.Author.Tests.{eq-eqb, ne_eqb}
 use Rattle.measures.specs.Kit.{size_of}
-use Rattle.std.proofs.Common.{rules}
 use Rattle.measures.proofs.size.Goals as goal
 
 pub returns-then-measure-eq4 : goal.returns-then-measure-eq4

@@ -1,6 +1,5 @@
 -- `model::number_of` meets its contract, case by case: beyond 16 cases `search` does not find them by itself.
 -- Assumes nothing.
-use Rattle.std.proofs.Common.{rules}
 use Rattle.model.proofs.number_of.Goals as goal
 
 pub returns-in-Boards : goal.returns-in-Boards

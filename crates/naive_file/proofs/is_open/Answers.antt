@@ -1,6 +1,6 @@
 -- `naive_file::is_open` is safe and ends.
 -- Assumes nothing.
-use Rattle.std.proofs.Common.{◌-◌, ◌≤◌, mul-le-mul, arith, rules}
+use Rattle.std.proofs.Common.{◌-◌, ◌≤◌, mul-le-mul, arith}
 use Rattle.naive_file.proofs.is_open.Goals as goal
 
 pub overflow_mul-at : goal.overflow_mul-at

@@ -1,6 +1,6 @@
 -- `naive_file::put_pairs` is safe and ends.
 -- Assumes nothing.
-use Rattle.std.proofs.Common.{◌≡◌, ◌-◌, length, rules}
+use Rattle.std.proofs.Common.{◌≡◌, length}
 use Rattle.naive_file.proofs.put_pairs.Given as goal
 
 abbrev pub invariant-loop-a : goal.invariant-loop-a

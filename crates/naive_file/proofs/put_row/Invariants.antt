@@ -1,6 +1,6 @@
 -- `naive_file::put_row` is safe and ends.
 -- Assumes nothing.
-use Rattle.std.proofs.Common.{◌≡◌, ◌-◌, length, rules}
+use Rattle.std.proofs.Common.{◌≡◌, length}
 use Rattle.naive_file.proofs.put_row.Given as goal
 
 abbrev pub invariant-loop-b : goal.invariant-loop-b

@@ -5,7 +5,6 @@ use Rattle.lists.proofs.Splice.{lent_first}
 use Rattle.links.specs.Tables.{compose}
 use Rattle.links.proofs.Ways.{length-within}
 use Rattle.measures.specs.Kit.{hops01}
-use Rattle.std.proofs.Common.{rules}
 use Rattle.reach.proofs.add_pick.Goals as goal
 
 pub returns : goal.returns

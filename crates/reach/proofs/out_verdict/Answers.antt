@@ -2,7 +2,6 @@
 use Rattle.verdicts.proofs.Verdicts.{passed_by, failed_by}
 use Rattle.model.proofs.Causes.{cause_none, cause_next, cause_here}
 use borrow.Author.Tests.{lt-ltb, le-ltb}
-use Rattle.std.proofs.Common.{rules}
 use Rattle.reach.proofs.out_verdict.Goals as goal
 
 pub returns-then-out-n : goal.returns-then-out-n

@@ -7,7 +7,6 @@ use Rattle.model.proofs.Refusals.{number_some}
 use Rattle.verdicts.specs.Verdicts.{verdict_says}
 use Rattle.reach.specs.Tables.{table_leaves, table_of}
 use Rattle.reach.proofs.Picks.{table_sound, front_long}
-use Rattle.std.proofs.Common.{rules}
 use Rattle.reach.proofs.table.Goals as goal
 
 pub nonzero_div-m : goal.nonzero_div-m

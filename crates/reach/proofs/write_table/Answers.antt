@@ -4,14 +4,9 @@ use Rattle.reach.proofs.Picks.{reach_turn, reach_first}
 use Rattle.links.specs.Tables.{within}
 use native.Mathlib.Nat.{le_refl}
 use mathlib.Core.Path.{◌≡◌, sym, ap, ◌∙◌}
-use Prim.Native.Nat.{◌≤◌, ◌-◌}
 use native.Mathlib.Omega.{arith}
-use lib.ListN.{length}
-use Rattle.links.specs.Composed.{reach}
-use Rattle.checks.specs.Lent.{lent_picks}
 use Rattle.links.proofs.Picks.{lent_end, lent_part, first_lent}
 use Rattle.measures.specs.Kit.{hops01}
-use Rattle.std.proofs.Common.{rules}
 use Rattle.reach.proofs.write_table.Goals as goal
 
 pub slice_bounds-close_over-end : goal.slice_bounds-close_over-end
@@ -19,18 +14,17 @@ slice_bounds-close_over-end c =
     omega (arith, lent_end c.args.n {k = 0} {m = c.args.m} c.requires.1.1.0)
 
 pub loop-k-init : goal.loop-k-init
-loop-k-init c =
+loop-k-init c = (
+  le_refl 1,
+  (
+    c.requires.1.1.0,
     (
-      le_refl 1,
-      (
-        c.requires.1.1.0,
-        (
-          c.close_over.auto.out ∙ sym c.requires.1.0,
-          c.close_over.ensures ∙ ap (within c.args.n hops01)
-              (first_lent c.args.n c.args.words.now) ∙ sym (reach_first c.args.n hops01 c.args.words.now),
-        ),
-      ),
-    )
+      c.close_over.auto.out ∙ sym c.requires.1.0,
+      c.close_over.ensures ∙ ap (within c.args.n hops01)
+          (first_lent c.args.n c.args.words.now) ∙ sym (reach_first c.args.n hops01 c.args.words.now),
+    ),
+  ),
+)
 
 pub overflow_mul-at : goal.overflow_mul-at
 overflow_mul-at c = omega (arith, lent_end c.args.n c.loop-k-test.true)
@@ -48,20 +42,19 @@ slice_bounds-add_pick-end c =
     omega (arith, lent_end c.args.n c.loop-k-test.true)
 
 pub loop-k-preserved : goal.loop-k-preserved
-loop-k-preserved c =
+loop-k-preserved c = (
+  omega arith,
+  (
+    omega (arith, c.loop-k-test.true),
     (
-      omega arith,
-      (
-        omega (arith, c.loop-k-test.true),
-        (
-          c.add_pick.auto.out ∙ c.loop-k.invariant.1.1.0,
-          reach_turn
-              c.args.n hops01 c.loop-k.k c.args.words.now c.loop-k.out c.add_pick.new.out _ c.loop-k.invariant.0
-              c.loop-k.invariant.1.1.1 (lent_part
-              c.args.n c.loop-k.k c.args.words.now) c.add_pick.ensures,
-        ),
-      ),
-    )
+      c.add_pick.auto.out ∙ c.loop-k.invariant.1.1.0,
+      reach_turn
+          c.args.n hops01 c.loop-k.k c.args.words.now c.loop-k.out c.add_pick.new.out _ c.loop-k.invariant.0
+          c.loop-k.invariant.1.1.1 (lent_part
+          c.args.n c.loop-k.k c.args.words.now) c.add_pick.ensures,
+    ),
+  ),
+)
 
 pub returns : goal.returns
 returns c =

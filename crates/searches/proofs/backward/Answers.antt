@@ -1,7 +1,6 @@
 -- `searches::backward` meets its contract. The invariant is the definition at `w`; a turn is `collect-next`.
 -- Assumes nothing.
 use mathlib.Core.Path.{◌≡◌, refl}
-use Prim.Native.Nat.{◌-◌, ◌≤◌}
 use native.Mathlib.Omega.{arith}
 use Rattle.searches.specs.Search.{collect}
 use Rattle.searches.proofs.Search.{collect-next}

@@ -4,7 +4,6 @@ use native.Mathlib.Nat.{one-mul, mod-eq_of_lt}
 use lib.Pow.{pow-lt}
 use borrow.Author.Tests.{eq-eqb, ne_eqb}
 use Rattle.searches.specs.Search.{leading}
-use Rattle.std.proofs.Common.{rules}
 use Rattle.searches.proofs.board_to.Goals as goal
 
 pub returns-then-row-s-eq0 : goal.returns-then-row-s-eq0

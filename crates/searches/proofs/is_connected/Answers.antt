@@ -1,10 +1,8 @@
 -- `searches::is_connected` meets its contract: board 0 is the one that all ways go over (`full_first`).
 -- Assumes nothing.
 use mathlib.Core.Path.{sym, ◌∙◌}
-use borrow.Author.Tests.{not-true, not-false}
 use Rattle.links.specs.Tables.{connected}
 use Rattle.searches.proofs.Search.{full_first}
-use Rattle.std.proofs.Common.{rules}
 use Rattle.searches.proofs.is_connected.Goals as goal
 
 pub returns-then-not-reaches_all : goal.returns-then-not-reaches_all

@@ -3,8 +3,7 @@
 use mathlib.Core.Path.{sym}
 use native.Mathlib.Omega.{arith}
 use Rattle.model.proofs.Logic.{T→≡}
-use Rattle.searches.proofs.Search.{Gone, gone_start, gone_next, gone_less, gone_below, gone_seen, gone_end, seen_all, seen_end}
-use Rattle.std.proofs.Common.{rules}
+use Rattle.searches.proofs.Search.{gone_start, gone_next, gone_less, gone_below, gone_seen, gone_end, seen_all, seen_end}
 use Rattle.searches.proofs.reaches_all.Goals as goal
 
 pub loop-s-init : goal.loop-s-init

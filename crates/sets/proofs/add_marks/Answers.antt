@@ -1,10 +1,7 @@
 -- `sets::add_marks` meets its contract. The invariant is `Made`; word v is read before it is written (`made_read`).
 -- Assumes nothing.
-use Prim.Native.Nat.{◌-◌}
-use lib.ListN.{get_or}
-use Rattle.lists.proofs.Tab.{Made, made_start, made_turn, made_read, made_all}
+use Rattle.lists.proofs.Tab.{made_start, made_turn, made_read, made_all}
 use Rattle.sets.specs.Marks.{marked_row}
-use Rattle.std.proofs.Common.{rules}
 use Rattle.sets.proofs.add_marks.Goals as goal
 
 pub loop-v-init : goal.loop-v-init

@@ -1,14 +1,9 @@
 -- `sets::column_marks` meets its contract. The invariant is the definition at w; a turn is `columns_next`.
 -- Assumes nothing.
 use mathlib.Core.Path.{◌≡◌, sym, ◌∙◌}
-use Prim.Native.Nat.{◌-◌, ◌≤◌}
 use native.Mathlib.Omega.{arith}
 use native.Mathlib.Nat.{le_of_eq}
-use lib.ListN.{length}
-use Rattle.lists.specs.Tab.{tab}
-use Rattle.times.specs.Times.{cell}
 use Rattle.times.proofs.Rows.{row_le, part_length}
-use Rattle.sets.specs.Marks.{marks}
 use Rattle.sets.proofs.Bits.{columns_none, columns_next}
 use Rattle.std.proofs.Common.{rules}
 use Rattle.sets.proofs.column_marks.Goals as goal
@@ -33,14 +28,13 @@ add_marks-requires c =
     (search rules, (sym c.loop-w.invariant.1.0, le_of_eq (part_length _ _ _ (omega (arith, row_le _ c.loop-w-test.true)))))
 
 pub loop-w-preserved : goal.loop-w-preserved
-loop-w-preserved c =
-    (
-      search rules,
-      (
-        c.add_marks.auto.sets ∙ c.loop-w.invariant.1.0,
-        c.add_marks.ensures ∙ columns_next c.args.n c.args.half.now c.loop-w.w c.loop-w.sets c.loop-w.invariant.1.1,
-      ),
-    )
+loop-w-preserved c = (
+  search rules,
+  (
+    c.add_marks.auto.sets ∙ c.loop-w.invariant.1.0,
+    c.add_marks.ensures ∙ columns_next c.args.n c.args.half.now c.loop-w.w c.loop-w.sets c.loop-w.invariant.1.1,
+  ),
+)
 
 pub returns : goal.returns
 returns c = let e : c.loop-w.w ≡ c.args.n = omega arith in rw e at c.loop-w.invariant.1.1

@@ -1,16 +1,11 @@
 -- `sets::column_marks` meets its contract. The invariant is the definition at w; a turn is `columns_next`.
 -- Assumes nothing.
-use mathlib.Core.Path.{◌≡◌, sym, ◌∙◌}
-use Prim.Native.Nat.{◌-◌, ◌≤◌}
-use native.Mathlib.Omega.{arith}
-use native.Mathlib.Nat.{le_of_eq}
+use mathlib.Core.Path.{◌≡◌}
+use Prim.Native.Nat.{◌≤◌}
 use lib.ListN.{length}
 use Rattle.lists.specs.Tab.{tab}
 use Rattle.times.specs.Times.{cell}
-use Rattle.times.proofs.Rows.{row_le, part_length}
 use Rattle.sets.specs.Marks.{marks}
-use Rattle.sets.proofs.Bits.{columns_none, columns_next}
-use Rattle.std.proofs.Common.{rules}
 use Rattle.sets.proofs.column_marks.Given as goal
 
 abbrev pub invariant-loop-w : goal.invariant-loop-w

@@ -1,9 +1,8 @@
 -- `sets::first_same` meets its contract.
 -- Assumes nothing.
-use Prim.Native.Nat.{◌-◌, ◌≤◌}
+use Prim.Native.Nat.{◌≤◌}
 use mathlib.Core.Path.{◌≡◌}
 use lib.ListN.{get_or}
-use Rattle.std.proofs.Common.{rules}
 use Rattle.sets.proofs.first_same.Given as goal
 
 abbrev pub invariant-loop-k : goal.invariant-loop-k

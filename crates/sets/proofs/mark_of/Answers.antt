@@ -4,7 +4,6 @@ use lib.Pow.{pow-lt}
 use native.Mathlib.Nat.{one-mul, mod-eq_of_lt}
 use borrow.Author.Tests.{eq-eqb, ne_eqb}
 use Rattle.sets.specs.Marks.{mark_of}
-use Rattle.std.proofs.Common.{rules}
 use Rattle.sets.proofs.mark_of.Goals as goal
 
 pub returns-then-x-eq0 : goal.returns-then-x-eq0

@@ -1,10 +1,8 @@
 -- `sets::row_marks` meets its contract. The invariant is the definition at v.
 -- Assumes nothing.
 use mathlib.Core.Path.{◌≡◌}
-use Prim.Native.Nat.{◌-◌, ◌≤◌}
 use native.Mathlib.Omega.{arith}
 use native.Mathlib.Numerals.{add-one}
-use lib.ListN.{get_or}
 use Rattle.sets.specs.Marks.{marks}
 use Rattle.std.proofs.Common.{rules}
 use Rattle.sets.proofs.row_marks.Goals as goal

@@ -1,12 +1,9 @@
 -- `sets::row_marks` meets its contract. The invariant is the definition at v.
 -- Assumes nothing.
 use mathlib.Core.Path.{◌≡◌}
-use Prim.Native.Nat.{◌-◌, ◌≤◌}
-use native.Mathlib.Omega.{arith}
-use native.Mathlib.Numerals.{add-one}
+use Prim.Native.Nat.{◌≤◌}
 use lib.ListN.{get_or}
 use Rattle.sets.specs.Marks.{marks}
-use Rattle.std.proofs.Common.{rules}
 use Rattle.sets.proofs.row_marks.Given as goal
 
 abbrev pub invariant-loop-v : goal.invariant-loop-v

@@ -3,7 +3,6 @@
 use lib.Pow.{pow-lt}
 use native.Mathlib.Nat.{one-mul, mod-eq_of_lt}
 use Rattle.sets.specs.Marks.{set_of}
-use Rattle.std.proofs.Common.{rules}
 use Rattle.sets.proofs.set_of.Goals as goal
 
 pub returns : goal.returns

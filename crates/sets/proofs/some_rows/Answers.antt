@@ -1,14 +1,12 @@
 -- `sets::some_rows` meets its contract. The invariant is the definition at w; a lent row is `any_lent`.
 -- Assumes nothing.
 use mathlib.Core.Path.{◌≡◌, ap, ap₂, ◌∙◌}
-use Prim.Native.Nat.{ℕ, ◌-◌, ◌≤◌}
+use Prim.Native.Nat.{ℕ}
 use lib.Bits.{bit_or}
 use native.Mathlib.Nat.{le_of_eq}
 use native.Mathlib.Omega.{arith}
 use native.Mathlib.Numerals.{add-one}
-use Rattle.times.specs.Times.{cell}
 use Rattle.times.proofs.Rows.{row_le, part_length}
-use Rattle.lists.specs.Tab.{any_of}
 use Rattle.sets.specs.Marks.{mark_of, marks, some_of}
 use Rattle.sets.proofs.Bits.{any_lent}
 use Rattle.std.proofs.Common.{rules}
@@ -35,13 +33,12 @@ any_of-requires c = le_of_eq (part_length _ _ _ (omega (arith, row_le _ c.loop-w
 
 pub loop-w-preserved : goal.loop-w-preserved
 unfolding marks
-loop-w-preserved c =
-    (
-      search rules,
-      rw (add-one c.loop-w.w)
-          (ap₂ bit_or c.loop-w.invariant.1 (c.mark_of-set.ensures ∙ ap (λ (x : ℕ). mark_of x c.loop-w.w)
-          (c.any_of.ensures ∙ any_lent c.args.n c.loop-w.w c.args.half.now))),
-    )
+loop-w-preserved c = (
+  search rules,
+  rw (add-one c.loop-w.w)
+      (ap₂ bit_or c.loop-w.invariant.1 (c.mark_of-set.ensures ∙ ap (λ (x : ℕ). mark_of x c.loop-w.w)
+      (c.any_of.ensures ∙ any_lent c.args.n c.loop-w.w c.args.half.now))),
+)
 
 pub returns : goal.returns
 unfolding some_of

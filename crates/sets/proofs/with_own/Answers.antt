@@ -1,12 +1,11 @@
 -- `sets::with_own` meets its contract. The invariant is `Made`; word u is read before it is written (`made_read`).
 -- Assumes nothing.
-use Prim.Native.Nat.{◌-◌, ◌<◌}
+use Prim.Native.Nat.{◌<◌}
 use native.Mathlib.Omega.{arith}
 use native.Mathlib.Nat.{one-mul, mod-eq_of_lt}
 use lib.Pow.{pow-lt}
-use Rattle.lists.proofs.Tab.{Made, made_start, made_turn, made_read, made_all}
+use Rattle.lists.proofs.Tab.{made_start, made_turn, made_read, made_all}
 use Rattle.sets.specs.Marks.{own_row}
-use Rattle.std.proofs.Common.{rules}
 use Rattle.sets.proofs.with_own.Goals as goal
 
 pub loop-u-init : goal.loop-u-init

@@ -1,12 +1,7 @@
 -- `sets::with_own` meets its contract. The invariant is `Made`; word u is read before it is written (`made_read`).
 -- Assumes nothing.
-use Prim.Native.Nat.{◌-◌, ◌<◌}
-use native.Mathlib.Omega.{arith}
-use native.Mathlib.Nat.{one-mul, mod-eq_of_lt}
-use lib.Pow.{pow-lt}
-use Rattle.lists.proofs.Tab.{Made, made_start, made_turn, made_read, made_all}
+use Rattle.lists.proofs.Tab.{Made}
 use Rattle.sets.specs.Marks.{own_row}
-use Rattle.std.proofs.Common.{rules}
 use Rattle.sets.proofs.with_own.Given as goal
 
 abbrev pub invariant-loop-u : goal.invariant-loop-u

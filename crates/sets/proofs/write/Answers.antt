@@ -1,15 +1,11 @@
 -- `sets::write` meets its contract. The invariant is `Made`; a lent row is `set_lent`.
 -- Assumes nothing.
 use mathlib.Core.Path.{◌∙◌}
-use Prim.Native.Nat.{◌-◌}
 use native.Mathlib.Nat.{le_of_eq}
 use native.Mathlib.Omega.{arith}
-use Rattle.lists.proofs.Tab.{Made, made_start, made_turn, made_all}
-use Rattle.times.specs.Times.{cell}
+use Rattle.lists.proofs.Tab.{made_start, made_turn, made_all}
 use Rattle.times.proofs.Rows.{row_le, part_length}
-use Rattle.sets.specs.Marks.{set_of}
 use Rattle.sets.proofs.Bits.{set_lent}
-use Rattle.std.proofs.Common.{rules}
 use Rattle.sets.proofs.write.Goals as goal
 
 pub loop-u-init : goal.loop-u-init

@@ -2,7 +2,6 @@
 -- Assumes nothing.
 use mathlib.Core.Path.{◌∙◌}
 use Rattle.sets.proofs.Bits.{columns_own}
-use Rattle.std.proofs.Common.{rules}
 use Rattle.sets.proofs.write_columns.Goals as goal
 
 pub returns : goal.returns

@@ -5,7 +5,6 @@ use Rattle.steps.proofs.Grown.{raise_tries, raised_grown, grown_lends}
 use native.Mathlib.Omega.{arith}
 use Rattle.steps.proofs.Fit.{fit_less}
 use Rattle.steps.proofs.Closes.{again_closes}
-use Rattle.std.proofs.Common.{rules}
 use Rattle.steps.proofs.again.Goals as goal
 
 pub raise-q-requires : goal.raise-q-requires

@@ -1,10 +1,7 @@
 -- `steps::build_left` meets its contract. The loop's invariant: the ladder stands in parts i to m.
 -- Assumes nothing.
-use Prim.Native.Nat.{◌≤◌, ◌-◌}
 use mathlib.Core.Path.{◌≡◌, sym, ◌∙◌}
 use native.Mathlib.Omega.{arith}
-use lib.ListN.{length}
-use Rattle.steps.specs.Walk.{kit_of, ladder}
 use Rattle.steps.proofs.Fit.{able_long, ladder_none, ladder_turn}
 use Rattle.std.proofs.Common.{rules}
 use Rattle.steps.proofs.build_left.Goals as goal

@@ -1,6 +1,5 @@
 -- `steps::clear_spare` meets its contract, which is that of `zero_at` at part limit + 4.
 -- Assumes nothing.
-use Rattle.std.proofs.Common.{rules}
 use Rattle.steps.proofs.clear_spare.Goals as goal
 
 pub returns : goal.returns

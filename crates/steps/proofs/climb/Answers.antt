@@ -1,12 +1,9 @@
 -- `steps::climb` meets its contract. The loop's invariant: the rises that are left from here make the whole climb.
 -- Assumes nothing.
-use mathlib.Core.Path.{◌≡◌, refl, ◌∙◌}
-use lib.ListN.{length}
+use mathlib.Core.Path.{refl, ◌∙◌}
 use Rattle.steps.specs.Walk.{again}
-use Rattle.steps.specs.Fit.{Lends}
 use Rattle.steps.proofs.Grown.{again_grown, grown_lends}
-use Rattle.steps.proofs.Rises.{Climb, climb-start, climb_takes, climb_turn, climb_passed, climb_over}
-use Rattle.std.proofs.Common.{rules}
+use Rattle.steps.proofs.Rises.{climb-start, climb_takes, climb_turn, climb_passed, climb_over}
 use Rattle.steps.proofs.climb.Goals as goal
 
 pub loop-k-init : goal.loop-k-init

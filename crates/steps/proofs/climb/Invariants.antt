@@ -1,12 +1,9 @@
 -- `steps::climb` meets its contract. The loop's invariant: the rises that are left from here make the whole climb.
 -- Assumes nothing.
-use mathlib.Core.Path.{◌≡◌, refl, ◌∙◌}
+use mathlib.Core.Path.{◌≡◌}
 use lib.ListN.{length}
-use Rattle.steps.specs.Walk.{again}
 use Rattle.steps.specs.Fit.{Lends}
-use Rattle.steps.proofs.Grown.{again_grown, grown_lends}
-use Rattle.steps.proofs.Rises.{Climb, climb-start, climb_takes, climb_turn, climb_passed, climb_over}
-use Rattle.std.proofs.Common.{rules}
+use Rattle.steps.proofs.Rises.{Climb}
 use Rattle.steps.proofs.climb.Given as goal
 
 abbrev pub invariant-loop-k : goal.invariant-loop-k

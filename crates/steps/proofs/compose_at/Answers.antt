@@ -1,7 +1,6 @@
 -- `steps::compose_at` meets its contract. The parts of the place lie in the area.
 -- Assumes nothing.
 use Rattle.steps.proofs.Fit.{able_has}
-use Rattle.std.proofs.Common.{rules}
 use Rattle.steps.proofs.compose_at.Goals as goal
 
 pub compose_onto-requires : goal.compose_onto-requires

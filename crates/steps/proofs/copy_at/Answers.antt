@@ -1,7 +1,6 @@
 -- `steps::copy_at` meets its contract. The parts of the place lie in the area.
 -- Assumes nothing.
 use Rattle.steps.proofs.Fit.{able_has}
-use Rattle.std.proofs.Common.{rules}
 use Rattle.steps.proofs.copy_at.Goals as goal
 
 pub copy_part-requires : goal.copy_part-requires

@@ -7,7 +7,6 @@ use Rattle.place.specs.declared.Place.{Place}
 use Rattle.place.specs.Places.{picks_taken, start_moved}
 use Rattle.steps.specs.Walk.{extended, entered, written}
 use Rattle.steps.proofs.Fit.{fit_less, able_has, in_part, fit_at, entry_fit, entry_owns, entry_lends, does_at}
-use Rattle.std.proofs.Common.{rules}
 use Rattle.steps.proofs.enter.Goals as goal
 
 pub own_part-requires : goal.own_part-requires

@@ -2,7 +2,6 @@
 -- Assumes nothing.
 use borrow.Author.Tests.{lt-ltb, le-ltb}
 use Rattle.steps.specs.Walk.{extended, extended_by}
-use Rattle.std.proofs.Common.{rules}
 use Rattle.steps.proofs.extend.Goals as goal
 
 pub returns-then-b-s : goal.returns-then-b-s

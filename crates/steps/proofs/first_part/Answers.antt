@@ -1,7 +1,6 @@
 -- `steps::first_part` meets its contract.
 -- Assumes nothing.
 use borrow.Author.Tests.{lt-leb, le-leb}
-use Rattle.std.proofs.Common.{rules}
 use Rattle.steps.proofs.first_part.Goals as goal
 
 pub returns-then-b-s : goal.returns-then-b-s

@@ -1,7 +1,6 @@
 -- `steps::is_over` meets its contract.
 -- Assumes nothing.
 use mathlib.Core.Path.{sym, ◌∙◌}
-use Rattle.std.proofs.Common.{rules}
 use Rattle.steps.proofs.is_over.Goals as goal
 
 pub returns : goal.returns

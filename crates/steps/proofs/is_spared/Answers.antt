@@ -1,7 +1,6 @@
 -- `steps::is_spared` meets its contract, by the tests of its branches.
 -- Assumes nothing.
 use borrow.Author.Tests.{eq-eqb, ne_eqb}
-use Rattle.std.proofs.Common.{rules}
 use Rattle.steps.proofs.is_spared.Goals as goal
 
 pub returns-then-p-eq2 : goal.returns-then-p-eq2

@@ -1,6 +1,5 @@
 -- `steps::is_untested` meets its contract, by the mode.
 -- Assumes nothing.
-use Rattle.std.proofs.Common.{rules}
 use Rattle.steps.proofs.is_untested.Goals as goal
 
 pub returns-in-Held : goal.returns-in-Held

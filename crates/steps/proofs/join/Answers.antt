@@ -5,7 +5,6 @@ use native.Mathlib.Omega.{arith}
 use borrow.Author.Tests.{lt-ltb, le-ltb}
 use Rattle.steps.specs.Walk.{joined, joined_area}
 use Rattle.steps.proofs.Fit.{able_has, in_part, charged_none}
-use Rattle.std.proofs.Common.{rules}
 use Rattle.steps.proofs.join.Goals as goal
 
 pub compose_own-requires : goal.compose_own-requires

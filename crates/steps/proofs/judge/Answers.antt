@@ -6,7 +6,6 @@ use native.Mathlib.Omega.{arith}
 use Rattle.place.specs.Places.{tested}
 use Rattle.steps.specs.Walk.{judged}
 use Rattle.steps.proofs.Fit.{able_has, in_part}
-use Rattle.std.proofs.Common.{rules}
 use Rattle.steps.proofs.judge.Goals as goal
 
 pub passes_part-passed-requires : goal.passes_part-passed-requires

@@ -5,7 +5,6 @@ use native.Mathlib.Omega.{arith}
 use Rattle.place.specs.Places.{charged}
 use Rattle.steps.proofs.Fit.{able_has, in_part}
 use Rattle.steps.proofs.Ladders.{on-right, on-left, on_both, on_both_composed, spared_footprint}
-use Rattle.std.proofs.Common.{rules}
 use Rattle.steps.proofs.judge_ladders.Goals as goal
 
 pub returns-then-b-s : goal.returns-then-b-s

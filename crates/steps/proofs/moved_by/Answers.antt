@@ -1,7 +1,6 @@
 -- `steps::moved_by` meets its contract, by the measure.
 -- Assumes nothing.
 use borrow.Author.Tests.{eq-eqb, ne_eqb}
-use Rattle.std.proofs.Common.{rules}
 use Rattle.steps.proofs.moved_by.Goals as goal
 
 pub returns-then-p-eq1 : goal.returns-then-p-eq1

@@ -5,7 +5,6 @@ use borrow.Author.Tests.{lt-ltb, le-ltb}
 use Rattle.place.specs.Places.{start_moved}
 use Rattle.steps.specs.Walk.{raised, raised_by, rebuilt}
 use Rattle.steps.proofs.Fit.{fit_at, moved_fit, moved_lends, does_at}
-use Rattle.std.proofs.Common.{rules}
 use Rattle.steps.proofs.raise.Goals as goal
 
 pub rebuild-requires : goal.rebuild-requires

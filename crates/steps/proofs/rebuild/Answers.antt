@@ -4,7 +4,6 @@ use mathlib.Core.Path.{◌∙◌}
 use native.Mathlib.Omega.{arith}
 use Rattle.place.specs.Places.{boundary_moved}
 use Rattle.steps.specs.Walk.{rebuilt}
-use Rattle.std.proofs.Common.{rules}
 use Rattle.steps.proofs.rebuild.Goals as goal
 
 pub overflow_sub-m : goal.overflow_sub-m
@@ -22,8 +21,7 @@ shape_of-area c =
 
 pub returns : goal.returns
 unfolding rebuilt
-returns c =
-    (
-      simp (c.charged.ensures, c.boundary_moved-q.ensures),
-      c.zero_at.ensures ∙ simp c.build_left.ensures,
-    )
+returns c = (
+  simp (c.charged.ensures, c.boundary_moved-q.ensures),
+  c.zero_at.ensures ∙ simp c.build_left.ensures,
+)

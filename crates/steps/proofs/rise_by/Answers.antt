@@ -1,6 +1,5 @@
 -- `steps::rise_by` meets its contract, by the mode.
 -- Assumes nothing.
-use Rattle.std.proofs.Common.{rules}
 use Rattle.steps.proofs.rise_by.Goals as goal
 
 pub returns-in-Kept : goal.returns-in-Kept

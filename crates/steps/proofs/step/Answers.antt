@@ -12,7 +12,6 @@ use Rattle.steps.proofs.Fit.{fit_less, able_long, entry_by}
 use Rattle.steps.proofs.Grown.{try_climbs, tried_grown, grown_lends}
 use Rattle.steps.proofs.Closes.{enters_tries, rise_one, rise_walked, moves_max, moves_min, finished_live, max_closes, min_closes, entered-spared}
 use Rattle.steps.proofs.Closes.{does_walked, kept-one, over_walked, live_walked, untested_closes, judged_closes, held_closes}
-use Rattle.std.proofs.Common.{rules}
 use Rattle.steps.proofs.step.Goals as goal
 
 pub picks_taken-requires : goal.picks_taken-requires

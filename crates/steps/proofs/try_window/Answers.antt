@@ -5,7 +5,6 @@ use Rattle.place.specs.Places.{charged}
 use Rattle.steps.specs.Walk.{tried, judged, windowed}
 use Rattle.steps.proofs.Fit.{fit_at, place_at}
 use Rattle.steps.proofs.Grown.{fit_grown, windowed_grown}
-use Rattle.std.proofs.Common.{rules}
 use Rattle.steps.proofs.try_window.Goals as goal
 
 pub judge-requires : goal.judge-requires

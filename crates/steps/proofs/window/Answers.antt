@@ -8,7 +8,6 @@ use Rattle.steps.proofs.Fit.{in_part, charged_none, window_copied}
 use Rattle.steps.specs.Fit.{In}
 use Rattle.steps.specs.Walk.{on_left, windowed, window_area}
 use Rattle.model.proofs.Logic.{cond_ind}
-use Rattle.std.proofs.Common.{rules}
 use Rattle.steps.proofs.window.Goals as goal
 
 pub copy_at-requires : goal.copy_at-requires

@@ -1,7 +1,6 @@
 -- `steps::zero_at` meets its contract. The part lies in the area.
 -- Assumes nothing.
 use Rattle.steps.proofs.Fit.{able_has}
-use Rattle.std.proofs.Common.{rules}
 use Rattle.steps.proofs.zero_at.Goals as goal
 
 pub zero_part-requires : goal.zero_part-requires

@@ -1,8 +1,8 @@
 -- `times::board_bits` meets its contract. The invariant is `Made`.
 -- Assumes nothing.
-use Rattle.std.proofs.Common.{◌-◌, length, sym, ap, ◌∙◌, mod-eq_of_lt, one-mul, rules}
+use Rattle.std.proofs.Common.{length, sym, ap, ◌∙◌, mod-eq_of_lt, one-mul}
 use lib.Pow.{pow-lt}
-use Rattle.lists.proofs.Tab.{length-zeros, Made, made_start, made_turn, made_all}
+use Rattle.lists.proofs.Tab.{length-zeros, made_start, made_turn, made_all}
 use Rattle.times.specs.Own.{board_bit}
 use Rattle.times.proofs.board_bits.Goals as goal
 

@@ -1,11 +1,8 @@
 -- `times::in_time` meets its contract. The invariant: the boards below `u` are in time with those below them.
 -- Assumes nothing.
-use Rattle.std.proofs.Common.{◌≡◌, ◌-◌, ◌≤◌, true, sym, ◌∙◌, arith, rules}
-use borrow.Author.Tests.{not-true, not-false}
+use Rattle.std.proofs.Common.{◌≡◌, ◌≤◌, true}
 use Rattle.lists.specs.Tab.{every}
-use Rattle.lists.proofs.Tab.{every_none, every-next, every_stop}
 use Rattle.times.specs.Pairs.{below_in_time}
-use Rattle.times.proofs.Pairs.{below_all}
 use Rattle.times.proofs.in_time.Given as goal
 
 abbrev pub invariant-loop-u : goal.invariant-loop-u

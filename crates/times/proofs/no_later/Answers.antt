@@ -1,7 +1,6 @@
 -- `times::no_later` meets its contract. What the difference wraps back to, and the bounds of a word, say which number it is; the sum fits 64 bits.
 -- Assumes nothing.
 use Rattle.times.proofs.Pairs.{no_later_is}
-use Rattle.std.proofs.Common.{rules}
 use Rattle.times.proofs.no_later.Goals as goal
 
 pub returns : goal.returns

@@ -1,9 +1,7 @@
 -- `times::own` meets its contract: the rows so far are made in both halves (`Twice`).
 -- Assumes nothing.
-use Rattle.std.proofs.Common.{◌-◌, ◌*◌, ◌≤◌, mul-le-mul_right, suc-mul, zero-mul, add-one, arith, rules}
+use Rattle.std.proofs.Common.{◌*◌, ◌≤◌}
 use Rattle.times.specs.Own.{own_word, Twice}
-use Rattle.times.specs.Times.{own_time, own_times}
-use Rattle.times.proofs.Twice.{twice_start, twice_all, lent_bits}
 use Rattle.times.proofs.own.Given as goal
 
 abbrev pub invariant-loop-u : goal.invariant-loop-u

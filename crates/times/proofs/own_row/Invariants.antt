@@ -1,10 +1,7 @@
 -- `times::own_row` meets its contract: a turn makes one word of each half (`twice_turn`), which is the own time (`own-word`).
 -- Assumes nothing.
-use Rattle.std.proofs.Common.{◌≡◌, ◌+◌, ◌-◌, ◌*◌, ◌≤◌, length, ap, ◌∙◌, add-zero, arith, length-set, rules}
-use Rattle.lists.proofs.Tab.{length-tab}
-use Rattle.times.specs.Own.{board_bit, own_word, Twice}
-use Rattle.times.proofs.Twice.{twice_turn, own-word}
-use Rattle.times.proofs.Rows.{cell_lt}
+use Rattle.std.proofs.Common.{◌+◌, ◌*◌, ◌≤◌}
+use Rattle.times.specs.Own.{own_word, Twice}
 use Rattle.times.proofs.own_row.Given as goal
 
 abbrev pub invariant-loop-v : goal.invariant-loop-v

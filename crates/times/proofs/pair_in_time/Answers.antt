@@ -1,8 +1,7 @@
 -- `times::pair_in_time` meets its contract: each return is one of the two questions, where the others are answered.
 -- Assumes nothing.
 -- the places of the pair's words, from what the function starts with
-use Rattle.std.proofs.Common.{◌+◌, ◌*◌, ◌<◌, sym, ◌∙◌, arith, rules}
-use borrow.Author.Tests.{not-true, not-false}
+use Rattle.std.proofs.Common.{◌+◌, ◌*◌, ◌<◌, sym, ◌∙◌, arith}
 use Rattle.times.proofs.Pairs.{pair_lt, pair_not, pair_last}
 use Rattle.times.proofs.pair_in_time.Goals as goal
 use Rattle.times.proofs.pair_in_time.Goals.{Start}

@@ -1,7 +1,7 @@
 -- `times::pair_out_of_time` meets its contract: the words of the pair are within the table, and what is added up is `pair_counted`.
 -- Assumes nothing.
 -- the places of the pair's words, from what the function starts with
-use Rattle.std.proofs.Common.{◌+◌, ◌*◌, ◌<◌, ◌∙◌, ap₂, arith, rules}
+use Rattle.std.proofs.Common.{◌+◌, ◌*◌, ◌<◌, ◌∙◌, ap₂, arith}
 use Rattle.times.proofs.Pairs.{pair_lt, pair_counted, too_late_le}
 use Rattle.times.proofs.pair_out_of_time.Goals as goal
 use Rattle.times.proofs.pair_out_of_time.Goals.{Start}

@@ -1,10 +1,8 @@
 -- `times::row_in_time` meets its contract. The invariant: the boards below `v` are in time with `u`.
 -- Assumes nothing.
-use Rattle.std.proofs.Common.{◌≡◌, ◌-◌, ◌≤◌, true, sym, ◌∙◌, arith, rules}
-use borrow.Author.Tests.{not-true, not-false}
-use Rattle.lists.specs.Tab.{every}
+use Rattle.std.proofs.Common.{◌≡◌, sym, ◌∙◌, arith, rules}
 use Rattle.lists.proofs.Tab.{every_none, every-next, every_stop}
-use Rattle.times.specs.Pairs.{pair_in_time, below_in_time}
+use Rattle.times.specs.Pairs.{below_in_time}
 use Rattle.times.proofs.row_in_time.Goals as goal
 
 pub loop-v-init : goal.loop-v-init

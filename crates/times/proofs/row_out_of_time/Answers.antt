@@ -1,7 +1,6 @@
 -- `times::row_out_of_time` meets its contract. The invariant: `ways` are those of `u` with the boards below `to`.
 -- Assumes nothing.
-use Rattle.std.proofs.Common.{◌≡◌, ◌-◌, ◌≤◌, arith, rules}
-use Rattle.times.specs.Pairs.{below_out_of_time}
+use Rattle.std.proofs.Common.{◌≡◌, arith, rules}
 use Rattle.times.proofs.Pairs.{below_none, below_next, below_small}
 use Rattle.times.proofs.row_out_of_time.Goals as goal
 

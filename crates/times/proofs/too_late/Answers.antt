@@ -1,6 +1,6 @@
 -- `times::too_late` meets its contract.
 -- Assumes nothing.
-use Rattle.std.proofs.Common.{rules, le-leb}
+use Rattle.std.proofs.Common.{le-leb}
 use borrow.Author.Tests.{lt-leb}
 use Rattle.times.specs.Pairs.{too_late}
 use Rattle.times.proofs.too_late.Goals as goal

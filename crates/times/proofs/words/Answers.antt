@@ -1,6 +1,6 @@
 -- `times::words` meets its contract: the words of a half are few (`half_few`).
 -- Assumes nothing.
-use Rattle.std.proofs.Common.{arith, rules}
+use Rattle.std.proofs.Common.{arith}
 use Rattle.times.proofs.Rows.{half_few}
 use Rattle.times.proofs.words.Goals as goal
 

@@ -6,7 +6,6 @@ use Prim.Native.Nat.{ℕ}
 use native.Mathlib.Omega.{arith}
 use Rattle.verdicts.proofs.Verdicts.{third_room, third_lent}
 use Rattle.checks.specs.Checks.{listed}
-use Rattle.std.proofs.Common.{rules}
 use Rattle.verdicts.proofs.is_listed.Goals as goal
 
 pub overflow_mul-at : goal.overflow_mul-at

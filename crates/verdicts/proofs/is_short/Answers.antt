@@ -1,5 +1,4 @@
 -- `verdicts::is_short` meets its contract. Assumes nothing.
-use Rattle.std.proofs.Common.{rules}
 use Rattle.verdicts.proofs.is_short.Goals as goal
 
 pub returns : goal.returns

@@ -1,7 +1,6 @@
 -- `verdicts::lent_verdict` meets its contract. Assumes nothing.
 use Rattle.model.proofs.Causes.{cause_none, cause_next, cause_here}
 use borrow.Author.Tests.{eq-eqb, ne_eqb, lt-ltb, le-ltb}
-use Rattle.std.proofs.Common.{rules}
 use Rattle.verdicts.proofs.lent_verdict.Goals as goal
 
 pub returns-then-words-n-ne0 : goal.returns-then-words-n-ne0

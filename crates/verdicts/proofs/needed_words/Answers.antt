@@ -1,7 +1,6 @@
 -- `verdicts::needed_words` meets its contract. Assumes nothing.
 use Rattle.verdicts.proofs.Verdicts.{needed_most}
 use native.Mathlib.Omega.{arith}
-use Rattle.std.proofs.Common.{rules}
 use Rattle.verdicts.proofs.needed_words.Goals as goal
 
 pub overflow_mul-result : goal.overflow_mul-result

@@ -4,9 +4,8 @@ use mathlib.Core.Path.{sym, ◌∙◌}
 use native.Mathlib.Omega.{arith}
 use borrow.Author.Tests.{eq-eqb, ne_eqb}
 use Rattle.verdicts.specs.Verdicts.{open_verdict}
-use Rattle.model.proofs.Causes.{cause_next, cause_here, between_says, holds_by}
+use Rattle.model.proofs.Causes.{cause_next, cause_here, between_says}
 use Rattle.verdicts.proofs.Verdicts.{passed_by, failed_by}
-use Rattle.std.proofs.Common.{rules}
 use Rattle.verdicts.proofs.open_verdict.Goals as goal
 
 pub returns-then-not-is_between : goal.returns-then-not-is_between

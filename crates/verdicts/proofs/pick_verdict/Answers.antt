@@ -5,9 +5,8 @@ use native.Mathlib.Omega.{arith}
 use borrow.Author.Tests.{eq-eqb, ne_eqb, le-leb, lt-leb}
 use Rattle.place.proofs.Laws.{sound_says}
 use Rattle.verdicts.specs.Verdicts.{pick_verdict}
-use Rattle.model.proofs.Causes.{cause_none, cause_next, cause_here, holds_by}
+use Rattle.model.proofs.Causes.{cause_none, cause_next, cause_here}
 use Rattle.verdicts.proofs.Verdicts.{passed_by, failed_by, not_short}
-use Rattle.std.proofs.Common.{rules}
 use Rattle.verdicts.proofs.pick_verdict.Goals as goal
 
 pub returns-then-not-is_sound : goal.returns-then-not-is_sound

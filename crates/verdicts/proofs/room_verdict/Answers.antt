@@ -2,7 +2,6 @@
 -- Assumes nothing.
 use mathlib.Core.Path.{sym, ◌∙◌}
 use Rattle.model.proofs.Causes.{cause_none, cause_next, cause_here}
-use Rattle.std.proofs.Common.{rules}
 use Rattle.verdicts.proofs.room_verdict.Goals as goal
 
 pub returns-then-is_short : goal.returns-then-is_short

@@ -2,7 +2,6 @@
 use Rattle.verdicts.proofs.Verdicts.{passed_by, failed_by}
 use Rattle.model.proofs.Causes.{cause_none, cause_next, cause_here}
 use mathlib.Core.Path.{sym, ◌∙◌}
-use Rattle.std.proofs.Common.{rules}
 use Rattle.verdicts.proofs.run_verdict.Goals as goal
 
 pub returns-then-is_short : goal.returns-then-is_short

@@ -2,10 +2,9 @@
 use Rattle.verdicts.proofs.Verdicts.{passed_by, failed_by, lent_sound}
 use Rattle.verdicts.specs.Verdicts.{verdict_says, lent_causes, whole_verdict}
 use Rattle.model.proofs.Refusals.{number_range}
-use Rattle.model.proofs.Causes.{cause_next, cause_here, none_holds, causes_before, causes_after, between_says, holds_by}
+use Rattle.model.proofs.Causes.{cause_next, cause_here, none_holds, causes_before, causes_after, between_says}
 use native.Mathlib.Omega.{arith}
 use mathlib.Core.Path.{sym, ap, ◌∙◌}
-use Rattle.std.proofs.Common.{rules}
 use Rattle.verdicts.proofs.whole_verdict.Goals as goal
 
 pub returns-then-not-is_between : goal.returns-then-not-is_between

@@ -2,7 +2,6 @@
 -- Assumes nothing.
 use Rattle.model.proofs.Causes.{cause_none, cause_next, cause_here}
 use Rattle.verdicts.proofs.Verdicts.{passed_by, failed_by}
-use Rattle.std.proofs.Common.{rules}
 use Rattle.verdicts.proofs.window_verdict.Goals as goal
 
 pub returns-then-not-is_between : goal.returns-then-not-is_between

@@ -4,7 +4,6 @@ use mathlib.Core.Path.{refl}
 use borrow.Author.Tests.{le-leb, lt-leb}
 use Rattle.model.proofs.Logic.{and_step, and_stop}
 use Rattle.place.specs.Places.{sound_counts}
-use Rattle.std.proofs.Common.{rules}
 use Rattle.place.proofs.Place.are_sound_counts.Goals as goal
 
 pub returns-then-m-c : goal.returns-then-m-c

@@ -1,7 +1,6 @@
 -- `place::Place::charged` meets its contract. Assumes nothing.
 use mathlib.Core.Path.{refl}
 use Rattle.place.specs.Places.{charged}
-use Rattle.std.proofs.Common.{rules}
 use Rattle.place.proofs.Place.charged.Goals as goal
 
 pub returns : goal.returns

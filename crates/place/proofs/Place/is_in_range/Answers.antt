@@ -1,10 +1,8 @@
 -- `place::Place::is_in_range` meets its contract: the three ranges, one after the other.
 -- Assumes nothing.
 use mathlib.Core.Path.{sym, ◌∙◌}
-use borrow.Author.Tests.{not-true, not-false}
 use Rattle.model.proofs.Logic.{and_step, and_stop}
 use Rattle.place.specs.Places.{in_range}
-use Rattle.std.proofs.Common.{rules}
 use Rattle.place.proofs.Place.is_in_range.Goals as goal
 
 pub returns-then-not-is_between : goal.returns-then-not-is_between

@@ -1,11 +1,9 @@
 -- `place::Place::is_sound` meets its contract: the parts of cause 16, one after the other, each with what the ones before it showed.
 -- Assumes nothing.
 use mathlib.Core.Path.{sym, ◌∙◌}
-use borrow.Author.Tests.{not-true, not-false}
 use Rattle.model.proofs.Logic.{and_step, and_stop}
 use Rattle.place.specs.Places.{sound_place}
 use Rattle.place.proofs.Laws.{limit_within, taken_low}
-use Rattle.std.proofs.Common.{rules}
 use Rattle.place.proofs.Place.is_sound.Goals as goal
 
 pub returns-then-not-is_in_range : goal.returns-then-not-is_in_range

@@ -3,7 +3,6 @@
 use borrow.Author.Tests.{le-leb, lt-leb}
 use Rattle.model.proofs.Logic.{and_step, and_stop}
 use Rattle.place.specs.Places.{sound_window}
-use Rattle.std.proofs.Common.{rules}
 use Rattle.place.proofs.Place.is_sound_window.Goals as goal
 
 pub returns-then-self-m : goal.returns-then-self-m

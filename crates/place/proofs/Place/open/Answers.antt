@@ -1,6 +1,5 @@
 -- `place::Place::open` meets its contract. Assumes nothing.
 use Rattle.place.specs.Places.{fresh}
-use Rattle.std.proofs.Common.{rules}
 use Rattle.place.proofs.Place.open.Goals as goal
 
 pub returns : goal.returns

@@ -1,7 +1,6 @@
 -- `place::Place::picks_taken` meets its contract. Assumes nothing.
 use Rattle.place.specs.Places.{picks_taken}
 use mathlib.Core.Path.{refl}
-use Rattle.std.proofs.Common.{rules}
 use Rattle.place.proofs.Place.picks_taken.Goals as goal
 
 pub returns : goal.returns

@@ -1,7 +1,6 @@
 -- `place::Place::start_moved` meets its contract. Assumes nothing.
 use Rattle.place.specs.Places.{start_moved}
 use mathlib.Core.Path.{refl}
-use Rattle.std.proofs.Common.{rules}
 use Rattle.place.proofs.Place.start_moved.Goals as goal
 
 pub returns : goal.returns

@@ -1,8 +1,6 @@
 -- `place::Place::tested` meets its contract. Assumes nothing.
 use Rattle.place.proofs.Laws.{mark_failed, mark_passed}
 use Rattle.place.specs.Places.{marked, tested}
-use borrow.Author.Tests.{not-true, not-false}
-use Rattle.std.proofs.Common.{rules}
 use Rattle.place.proofs.Place.tested.Goals as goal
 
 pub returns-then-not-passed : goal.returns-then-not-passed
