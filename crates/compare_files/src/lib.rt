@@ -5,6 +5,7 @@ ghost use Rattle.std.specs.Prelude.{◌≤◌, length};
 
 use compare_tallies::{Case, Group, Outcome, Tally};
 use recording::Reading;
+use std::env::FillError;
 use std::fs::File;
 use std::io::Read;
 use std::rt::{Env, Files};
@@ -153,7 +154,32 @@ fn word_case<R: Files>(
     found_case(t, f, text, words, area)
 }
 
-// The cases of the arguments: the number of a case is that of its argument.
+// How many arguments there are, the program's name among them.
+fn arg_count<R: Env>(rt: &R) -> usize {
+    let mut text = io::buffer();
+    for i in 0..usize::MAX {
+        if matches!(rt.arg(i, &mut text), Err(FillError::NotPresent)) {
+            return i;
+        }
+    }
+    usize::MAX
+}
+
+// The number of a case is that of its argument. One that no buffer holds is no case of any group.
+fn argument_case<R: Env + Files>(
+    rt: &R,
+    t: Tally,
+    case: Case,
+    words: &mut [u32],
+    area: &mut [u32],
+) -> Tally {
+    let mut text = io::buffer();
+    let Ok(length) = rt.arg(case.number, &mut text) else {
+        return t;
+    };
+    word_case(rt, t, case, &text[..length], words, area)
+}
+
 pub fn tally<R: Env + Files>(
     rt: &R,
     group: Group,
@@ -162,13 +188,9 @@ pub fn tally<R: Env + Files>(
     area: &mut [u32],
 ) -> Tally {
     let mut t = compare_tallies::no_cases(group);
-    for i in 1..usize::MAX {
-        let mut text = io::buffer();
-        let Ok(length) = rt.arg(i, &mut text) else {
-            break;
-        };
-        let case = compare_tallies::numbered(i, measure);
-        t = word_case(rt, t, case, &text[..length], words, area);
+    let end = arg_count(rt);
+    for i in 1..end {
+        t = argument_case(rt, t, compare_tallies::numbered(i, measure), words, area);
     }
     t
 }
