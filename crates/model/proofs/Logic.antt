@@ -128,8 +128,8 @@ module _ (Q : ℕ → Type 0) (i j : ℕ) (dec : (x : ℕ) → i ≤ x → x ≤
       go (yes g) k = (x, p, omega arith, g, z)
       go (no g) k = k (λ y s t r. ⊎_elim (λ (d : y ≡ x). g (subst Q d r)) (λ (d : y ≢ x). z y s (omega arith) r) (eq_or y x))
 
-  pub first_of : (a : ℕ) → i ≤ a → a ≤ j → Q a → (b : ℕ) × (i ≤ b) × (b ≤ a) × Q b × ((y : ℕ) → i ≤ y → y < b → Q y → ⊥)
-  first_of a p h q = first_from (a - i) i a (le_refl i) (omega arith) h (λ y s t. absurd (omega arith)) q
+  pub first_number : (a : ℕ) → i ≤ a → a ≤ j → Q a → (b : ℕ) × (i ≤ b) × (b ≤ a) × Q b × ((y : ℕ) → i ≤ y → y < b → Q y → ⊥)
+  first_number a p h q = first_from (a - i) i a (le_refl i) (omega arith) h (λ y s t. absurd (omega arith)) q
 
   last_from : (c x a : ℕ) → x ≤ j → x ≡ a + c → i ≤ a → ((y : ℕ) → x < y → y ≤ j → Q y → ⊥) → Q a → (b : ℕ) × (a ≤ b)
       × (b ≤ j) × Q b × ((y : ℕ) → b < y → y ≤ j → Q y → ⊥)

@@ -10,7 +10,7 @@ use lib.ListN.{length}
 use Rattle.model.specs.Journey.{Limit, Journey}
 use Rattle.model.specs.Measures.{Listed, Leads, here, along, PassesCommon, SomeLink, PassesFootprint, PassesReach, RoundTrip, PassesRoundTrip}
 use Rattle.model.specs.Length.{Upward, Downward}
-use Rattle.model.proofs.Logic.{first_of, last_of}
+use Rattle.model.proofs.Logic.{first_number, last_of}
 use Rattle.model.proofs.Trips.{journey_wider}
 
 pub leads_map : {R S : ℕ → ℕ → Type 0} {u v : ℕ} → ((a b : ℕ) → R a b → S a b) → Leads R u v → Leads S u v
