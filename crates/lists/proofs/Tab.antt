@@ -27,7 +27,7 @@ get_or-tab f (suc k) i h =
     (eq-or-lt_of_le (le_of_suc-le-suc h))
 
 -- The invariant of a loop that writes a table of n words by index: t is f's words below u, and t₀'s from u on.
--- A proof's `Inv-loop` is a `Made`; `made_start`, `made_turn`, `made_read` and `made_all` answer its needs.
+-- A function's `invariant-loop-x` is a `Made`; `made_start`, `made_turn`, `made_read` and `made_all` answer its goals.
 pub record Made (f : ℕ → ℕ) (n : ℕ) (t₀ t : List ℕ) (u : ℕ) : Type 0 where
   pub size : n ≡ length t₀
   pub low : u ≤ n

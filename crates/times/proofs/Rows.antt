@@ -33,7 +33,7 @@ from_start m xs = take_all (length xs - m) (drop m xs) (le_of_eq (length-drop m 
 -- ---- rows
 
 -- The invariant of a loop that writes n rows of n words: t is t₀ with f's rows below u.
--- A proof's `Inv-loop` is a `Rowed`; `rowed_start`, `rowed_turn` and `rowed_all` answer its needs.
+-- A function's `invariant-loop-x` is a `Rowed`; `rowed_start`, `rowed_turn` and `rowed_all` answer its goals.
 pub record Rowed (n : ℕ) (f : ℕ → ℕ → ℕ) (t₀ t : List ℕ) (u : ℕ) : Type 0 where
   pub size : n * n ≡ length t₀
   pub low : u ≤ n
