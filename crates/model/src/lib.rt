@@ -6,86 +6,69 @@ ghost use Rattle.model.specs.Causes.{between};
 ghost use Rattle.model.specs.Refusals.{number};
 
 // A board's number, from 0 on.
-#[derive(Clone, Copy)]
+#[derive(Clone, Copy, PartialEq, Eq)]
 pub struct Board(pub usize);
 
 // A pick's number, from 1 on; 0 stands for none.
-#[derive(Clone, Copy)]
+#[derive(Clone, Copy, PartialEq, Eq)]
 pub struct Pick(pub usize);
 
 // How many compositions were made.
-#[derive(Clone, Copy)]
+#[derive(Clone, Copy, PartialEq, Eq)]
 pub struct Compositions(pub usize);
 
 // How many tests were made.
-#[derive(Clone, Copy)]
+#[derive(Clone, Copy, PartialEq, Eq)]
 pub struct Tests(pub usize);
 
 // The causes of 01, and of the requests after it, in the order of their numbers, 1 to 18; `number` in specs/Refusals.antt gives each its number.
-#[derive(Clone, Copy)]
+#[derive(Clone, Copy, PartialEq, Eq)]
 pub enum Refusal {
     // n not 2 to 32
-    Boards,
+    Boards = 1,
     // measure not 1 to 4
-    Measure,
+    Measure = 2,
     // pick limit, or picks lent whole, not 1 to 4,096
-    Picks,
+    Picks = 3,
     // lent area or output shorter than needed
-    Room,
+    Room = 4,
     // forbidden bit in a pick or link list
-    Forbidden,
+    Forbidden = 5,
     // measure 2 pick by pick: link outside the list
-    Unlisted,
+    Unlisted = 6,
     // pick beyond the limit
-    Full,
+    Full = 7,
     // no pick yet
-    NoPick,
+    NoPick = 8,
     // no length exists
-    NoLength,
+    NoLength = 9,
     // words not n (a pick or list), or not a multiple of n (whole)
-    Shape,
+    Shape = 10,
     // unknown command, first not 42, or 42 again
-    Command,
+    Command = 11,
     // file stops before 45 or inside operands
-    Stopped,
+    Stopped = 12,
     // link operands equal, or n or above
-    Operands,
+    Operands = 13,
     // opening an open link or shutting a shut one
-    Unchanged,
+    Unchanged = 14,
     // bytes after 45
-    Trailing,
+    Trailing = 15,
     // place: n, measure or limit out of range, m above limit, b above m, s not 1 to b + 1, s above m when m is 1 or more,
     // a test marked as failed or as passed when m is 0, compositions above 4 × m or tests above 2 × m
-    BadPlace,
+    BadPlace = 16,
     // window length handed in 0 or above the number of picks
-    WindowLength,
+    WindowLength = 17,
     // output bytes fewer than the file has
-    FileRoom,
+    FileRoom = 18,
 }
 
 // The number of a cause.
-pub fn number_of(cause: Refusal) -> usize
-    ensures { result ≡ number cause }
-{
-    match cause {
-        Refusal::Boards => 1,
-        Refusal::Measure => 2,
-        Refusal::Picks => 3,
-        Refusal::Room => 4,
-        Refusal::Forbidden => 5,
-        Refusal::Unlisted => 6,
-        Refusal::Full => 7,
-        Refusal::NoPick => 8,
-        Refusal::NoLength => 9,
-        Refusal::Shape => 10,
-        Refusal::Command => 11,
-        Refusal::Stopped => 12,
-        Refusal::Operands => 13,
-        Refusal::Unchanged => 14,
-        Refusal::Trailing => 15,
-        Refusal::BadPlace => 16,
-        Refusal::WindowLength => 17,
-        Refusal::FileRoom => 18,
+impl From<Refusal> for u32 {
+    ghost from_gives = { λ cause word. word ≡ number cause };
+
+    fn from(cause: Refusal) -> u32 {
+        cause as u32
     }
 }
 
