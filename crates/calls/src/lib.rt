@@ -2,6 +2,7 @@
 #![tactic(auto)]
 
 ghost use Rattle.std.specs.Prelude.{◌≡◌, ◌≢◌, ◌-◌, ◌*◌, ◌≤◌, length};
+ghost use Rattle.measures.specs.Kit.{size_of};
 ghost use Rattle.area.specs.Parts.{zeroed};
 ghost use Rattle.place.specs.Places.{charged};
 ghost use Rattle.verdicts.specs.Verdicts.{needed};
@@ -95,35 +96,25 @@ pub fn open(
 
 // ---- pick
 
-// One step under measures 1 to 3, with room for the copy of a table of links.
-fn step_links(p: Place, area: &mut [u32], words: &[u32]) -> Place
-    requires { Takes p (length area.old) (length words.now) × (p.settings.measure ≢ 4) }
+// One step, with room for the copy of a table of up to W words.
+fn step_in<const W: usize>(p: Place, area: &mut [u32], words: &[u32]) -> Place
+    requires { Takes p (length area.old) (length words.now) × (size_of p.settings.measure p.settings.boards ≤ W) × (W ≤ 2048) }
     ensures { Does (stepped (kit_of p.settings) words.now) p area.old result area.new }
 {
-    let n = p.settings.boards;
-    let mut right = lists::no_words();
-    steps::step(p, area, words, &mut right[0..n], Mode::Kept)
+    let k = measures::size(p.settings.measure, p.settings.boards);
+    let mut right = lists::zeroed::<W>();
+    steps::step(p, area, words, &mut right[..k], Mode::Kept)
 }
 
-// One step under measure 4, with room for the copy of a table of times.
-fn step_times(p: Place, area: &mut [u32], words: &[u32]) -> Place
-    requires { Takes p (length area.old) (length words.now) × (p.settings.measure ≡ 4) }
-    ensures { Does (stepped (kit_of p.settings) words.now) p area.old result area.new }
-{
-    let n = p.settings.boards;
-    let k = measures::size(4, n);
-    let mut right = lists::no_times();
-    steps::step(p, area, words, &mut right[0..k], Mode::Kept)
-}
-
+// A table of times has 2,048 words at most, one of links 32.
 fn take_pick(p: Place, area: &mut [u32], words: &[u32]) -> Place
     requires { Takes p (length area.old) (length words.now) }
     ensures { Does (stepped (kit_of p.settings) words.now) p area.old result area.new }
 {
     if p.settings.measure == 4 {
-        return step_times(p, area, words);
+        return step_in::<2048>(p, area, words);
     }
-    step_links(p, area, words)
+    step_in::<32>(p, area, words)
 }
 
 // Takes a pick: one step of the walk.
@@ -189,7 +180,7 @@ fn make_footprint(p: Place, words: &[u32], n: usize, m: usize, out: &mut [u32]) 
     requires { (n ≡ length out.old) × (n ≤ 32) × (1 ≤ m) × (m ≤ 4096) × (m * n ≤ length words.now) × (p.counts.compositions.0 ≡ 0) }
     ensures { (result ≡ charged p (m - 1)) × (out.new ≡ unions n words.now m) }
 {
-    lists::copy_over(out, &words[0..n], n);
+    out.copy_from_slice(&words[..n]);
     let made = links::unite_picks(out, words, n, 1, m);
     p.charged(made)
 }
@@ -213,54 +204,41 @@ pub fn whole_start(n: usize, measure: usize, words: &[u32], m: usize, area: &mut
 // All picks, one after the other, by the unchecked step: a count that starts at m - 1 would be refused as 16. The area is not kept, and once measure 1
 // has ended the picks that are left only count.
 fn whole_steps(p: Place, area: &mut [u32], words: &[u32], m: usize, right: &mut [u32]) -> Place
-    requires { Starts p m words.now area.old × Lends p.settings (length right.old) }
+    requires { Starts p m words.now area.old × (1 ≤ p.settings.boards) × Lends p.settings (length right.old) }
     ensures { Does (bare_steps (kit_of p.settings) p.settings.boards words.now m) p area.old result area.new
         × Ends p m area.old result area.new }
 {
     let n = p.settings.boards;
     let mut q = p;
-    for k in 0..m {
+    for pick in words[..m * n].chunks_exact(n) {
         if steps::is_finished(q) {
-            return q.picks_taken(m - k);
+            return q.picks_taken(m - q.window.taken.0);
         }
-        let at = k * n;
-        q = steps::step(q, area, &words[at..at + n], right, Mode::Unkept);
+        q = steps::step(q, area, pick, right, Mode::Unkept);
     }
     q
 }
 
-// The same with room for the copy of a table of links, made once for all picks.
-fn whole_links(p: Place, area: &mut [u32], words: &[u32], m: usize) -> Place
-    requires { Starts p m words.now area.old × (p.settings.measure ≢ 4) }
+// The same with room for the copy of a table of up to W words, made once for all picks.
+fn whole_in<const W: usize>(p: Place, area: &mut [u32], words: &[u32], m: usize) -> Place
+    requires { Starts p m words.now area.old × (1 ≤ p.settings.boards) × (size_of p.settings.measure p.settings.boards ≤ W) × (W ≤ 2048) }
     ensures { Does (bare_steps (kit_of p.settings) p.settings.boards words.now m) p area.old result area.new
         × Ends p m area.old result area.new }
 {
-    let n = p.settings.boards;
-    let mut right = lists::no_words();
-    whole_steps(p, area, words, m, &mut right[0..n])
-}
-
-// The same with room for the copy of a table of times.
-fn whole_times(p: Place, area: &mut [u32], words: &[u32], m: usize) -> Place
-    requires { Starts p m words.now area.old × (p.settings.measure ≡ 4) }
-    ensures { Does (bare_steps (kit_of p.settings) p.settings.boards words.now m) p area.old result area.new
-        × Ends p m area.old result area.new }
-{
-    let n = p.settings.boards;
-    let k = measures::size(4, n);
-    let mut right = lists::no_times();
-    whole_steps(p, area, words, m, &mut right[0..k])
+    let k = measures::size(p.settings.measure, p.settings.boards);
+    let mut right = lists::zeroed::<W>();
+    whole_steps(p, area, words, m, &mut right[..k])
 }
 
 fn take_picks(p: Place, area: &mut [u32], words: &[u32], m: usize) -> Place
-    requires { Starts p m words.now area.old }
+    requires { Starts p m words.now area.old × (1 ≤ p.settings.boards) }
     ensures { Does (bare_steps (kit_of p.settings) p.settings.boards words.now m) p area.old result area.new
         × Ends p m area.old result area.new }
 {
     if p.settings.measure == 4 {
-        return whole_times(p, area, words, m);
+        return whole_in::<2048>(p, area, words, m);
     }
-    whole_links(p, area, words, m)
+    whole_in::<32>(p, area, words, m)
 }
 
 // A whole run that nothing refuses. It never reads what the area held, and the needed words end zero.

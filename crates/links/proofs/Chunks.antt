@@ -25,6 +25,15 @@ behind_first n m k w h =
     let g : m * n - k * n ≡ (m - k) * n = omega arith in
     record { left = m - k; all = e; words = ap (λ (x : ℕ). take x (drop (k * n) w)) g }
 
+-- those of pick 1
+pub first_words : (n : ℕ) (w : List ℕ) → take n w ≡ lent_pick n w 0
+unfolding lent_pick
+first_words n w = ap (λ (x : ℕ). take n (drop x w)) (sym (zero-mul n))
+
+-- the words of all m picks
+pub behind_all : (n m : ℕ) (w : List ℕ) → Behind n m w 0 (take (m * n) w)
+behind_all n m w = record { left = m; all = omega arith; words = ap (λ (x : ℕ). take (m * n) (drop x w)) (sym (zero-mul n)) }
+
 module _ {n m : ℕ} {w : List ℕ} {k : ℕ} {rest : List ℕ} (room : m * n ≤ length w) (b : Behind n m w k rest) where
   behind_length : length rest ≡ b.left * n
   behind_length =

@@ -2,7 +2,7 @@
 use mathlib.Core.Path.{◌≡◌, refl, sym, ap, ap₂, ◌∙◌}
 use mathlib.Core.List.{List, [], ◌∷◌, ◌++◌}
 use Prim.Native.Nat.{ℕ, suc, ◌+◌, ◌-◌, ◌*◌, ◌/◌, ◌≤◌, ◌<◌}
-use native.Mathlib.Nat.{sub-zero, one-mul, le_refl}
+use native.Mathlib.Nat.{one-mul, le_refl}
 use native.Mathlib.Numerals.{add-one}
 use native.Mathlib.Omega.{arith}
 use lib.Dec.{T}
@@ -11,8 +11,7 @@ use Rattle.model.proofs.Causes.{none_holds, between_says, in-range, holds_by, no
 use Rattle.links.specs.Tables.{compose, within}
 use Rattle.links.specs.Composed.{composed_from, composed, reach}
 use Rattle.links.specs.Picks.{lent_pick}
-use Rattle.links.proofs.Picks.{first_lent}
-use Rattle.links.proofs.Chunks.{Behind, behind_first, behind_turn, behind_none}
+use Rattle.links.proofs.Chunks.{Behind, first_words, behind_first, behind_turn, behind_none}
 use Rattle.checks.specs.Lent.{lent_picks, clean_picks}
 use Rattle.checks.proofs.Lent.{length_lent}
 use Rattle.verdicts.proofs.Verdicts.{true_of, not_short, long_enough, lent_sound, lent_none}
@@ -95,7 +94,7 @@ pub reached_first : {n h m : ℕ} {w out : List ℕ} → 1 ≤ m → out ≡ wit
 reached_first {n} {h} {m} {w} l e = record {
   some = le_refl 1;
   behind = rw one-mul at (behind_first n m 1 w l);
-  table = e ∙ ap (within n h) (ap (λ (x : ℕ). take x w) (sym (sub-zero n)) ∙ first_lent n w) ∙ sym (reach_first n h w);
+  table = e ∙ ap (within n h) (first_words n w) ∙ sym (reach_first n h w);
 }
 
 pub reached_turn : {n h m k : ℕ} {w rest out rest' out' : List ℕ} (p : List ℕ) → m * n ≤ length w → 1 ≤ n → Reached n h m w k rest out
