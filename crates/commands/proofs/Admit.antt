@@ -34,10 +34,6 @@ linkable n a b e =
     let q = or_parts (leb n a) (leb n b) p.1 in
     record { apart = eqb-false a b p.0; from = leb-false n a q.0; to = leb-false n b q.1 }
 
--- the two operands of a link that is able: an index of the links, and a shift
-pub in_links : (n a b k : ℕ) → no_link n a b ≡ false → n ≡ k → n ≤ 32 → (a < k) × (b < 32)
-in_links n a b k e q h = let l = linkable n a b e in let f = l.from in let t = l.to in (omega arith, omega arith)
-
 -- ---- a command that is taken
 
 -- its byte is in the table and in its place, its operands are within the file, and of its own causes none holds

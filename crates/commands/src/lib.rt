@@ -56,7 +56,7 @@ const COMMANDS: [Shape; 5] = [
 ];
 
 // The operand count of a command byte, by the table.
-#[tactic(auto, unfolding(crate::specs::Commands::arity_of, crate::specs::Commands::lookup))]
+#[tactic(auto, unfolding(crate::specs::Commands::arity_of))]
 fn operands_of(byte: u8) -> Option<u8>
     ensures { result ≡ arity_of byte }
 {
@@ -152,24 +152,23 @@ fn is_unchanged(links: &[u32], from: Board, to: Board, opens: bool) -> bool
     links::linked(links[from.0], to) == opens
 }
 
-// A later command, checked against n, the limit, the picks so far and the open links.
+// A later command, checked against n, the limit, the picks so far and the open links, which are n words.
 #[tactic(auto, using(crate::proofs::Fitted::next_then), unfolding(model::specs::Causes::first_or))]
 pub fn next(
     bytes: &[u8],
     at: usize,
-    n: usize,
     limit: usize,
     picks: usize,
     links: &[u32],
 ) -> Result<Item, Refusal>
-    requires { (n ≡ length links.now) × (n ≤ 32) }
-    ensures { result ≡ next_of bytes.now n limit at picks links.now }
+    requires { length links.now ≤ 32 }
+    ensures { result ≡ next_of bytes.now (length links.now) limit at picks links.now }
 {
     let Command::Later(item) = command_at(bytes, at, false)? else {
         return Err(Refusal::Command);
     };
     match item {
-        Item::Link(from, to, _) if no_link(from, to, n) => Err(Refusal::Operands),
+        Item::Link(from, to, _) if no_link(from, to, links.len()) => Err(Refusal::Operands),
         Item::Link(from, to, opens) if is_unchanged(links, from, to, opens) => {
             Err(Refusal::Unchanged)
         }
