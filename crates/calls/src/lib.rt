@@ -42,7 +42,7 @@ pub struct Measured {
 
 impl Answer {
     // Refused before anything was counted.
-    fn refused(cause: Refusal) -> Answer
+    pub fn refused(cause: Refusal) -> Answer
         ensures { answer_says result ≡ outcome (number cause) 0 0 0 }
     {
         Answer {
