@@ -56,9 +56,7 @@ fn build_left(p: Place, area: &mut [u32], right: &mut [u32], s: usize, m: usize)
     requires { Able p.settings (length area.old) × Lends p.settings (length right.old) × (1 ≤ s) × (s ≤ m) × (m ≤ p.settings.limit) }
     ensures { area.new ≡ ladder (kit_of p.settings) area.old m (m - s) }
 {
-    let mut i = m;
-    while s < i {
-        i -= 1;
+    for i in (s..m).rev() {
         compose_at(p, area, right, i, i + 1);
     }
 }
@@ -134,10 +132,12 @@ fn first_part(p: Place) -> usize
     requires { p.settings.limit ≤ 4096 }
     ensures { result ≡ first_part p }
 {
-    let s = p.window.start;
-    let b = p.window.boundary;
-    let limit = p.settings.limit;
-    if b.0 < s.0 { limit + 1 } else { s.0 }
+    let s = p.window.start.0;
+    if p.window.boundary.0 < s {
+        p.settings.limit + 1
+    } else {
+        s
+    }
 }
 
 // The window s to m goes to part limit + 2: a copy from the ladder that it begins on, and a composition where it lies on both.
@@ -263,21 +263,17 @@ fn again(p: Place, area: &mut [u32], right: &mut [u32]) -> Place
     try_window(q, area, right)
 }
 
-// Until a test passes or the window s = m has failed: k = m - s rises are left.
+// Until a test passes or the window s = m has failed.
 fn climb(p: Place, area: &mut [u32], right: &mut [u32]) -> Place
     requires { Fit p (length area.old) (3 * per_ladder) × Lends p.settings (length right.old) }
     ensures { Does (climbed (kit_of p.settings)) p area.old result area.new }
 {
-    let m = p.window.taken;
-    let s = p.window.start;
-    let mut k = m.0 - s.0;
     let mut q = p;
-    while 0 < k {
+    for _ in p.window.start.0..p.window.taken.0 {
         if q.marks.passed {
             return q;
         }
         q = again(q, area, right);
-        k -= 1;
     }
     q
 }
@@ -286,21 +282,14 @@ fn climb(p: Place, area: &mut [u32], right: &mut [u32]) -> Place
 pub fn is_finished(p: Place) -> bool
     ensures { result ≡ finished p }
 {
-    if p.settings.measure != 1 {
-        return false;
-    }
-    let m = p.window.taken;
-    if 0 < m.0 {
-        return !p.marks.passed;
-    }
-    false
+    p.settings.measure == 1 && 0 < p.window.taken.0 && !p.marks.passed
 }
 
 // ---- how a step is made
 
 // `Kept`: every part then holds what 01 says, as after a call for a pick. `Unkept`: nobody looks at the area afterwards, as in a whole run. `Held(k)`: nor
 // here, and the window is held at k picks, as in a decision. One function makes all of them, so that what it calls is called from one place.
-#[derive(Clone, Copy)]
+#[derive(Clone, Copy, PartialEq, Eq)]
 pub enum Mode {
     Kept,
     Unkept,
@@ -310,58 +299,41 @@ pub enum Mode {
 fn is_kept(mode: Mode) -> bool
     ensures { result ≡ kept_by mode }
 {
-    match mode {
-        Mode::Kept => true,
-        Mode::Unkept => false,
-        Mode::Held(_) => false,
-    }
+    matches!(mode, Mode::Kept)
 }
 
 fn is_held(mode: Mode) -> bool
     ensures { result ≡ held_by mode }
 {
-    match mode {
-        Mode::Kept => false,
-        Mode::Unkept => false,
-        Mode::Held(_) => true,
-    }
+    matches!(mode, Mode::Held(_))
 }
 
 // Whether a pick raises m only. Where the window is held none does: before pick k no test has passed, and that is no end.
 fn is_over(p: Place, mode: Mode) -> bool
     ensures { result ≡ over_by mode p }
 {
-    if is_held(mode) {
-        return false;
-    }
-    is_finished(p)
+    !is_held(mode) && is_finished(p)
 }
 
 // What the start moves by at a new pick: one, under measure 1 once a test has failed, under the others after a test that passed.
 fn moved_by(p: Place) -> usize
     ensures { result ≡ rise p }
 {
-    if p.settings.measure == 1 {
-        return one_if(p.marks.failed);
-    }
-    one_if(p.marks.passed)
-}
-
-fn one_if(x: bool) -> usize
-    ensures { result ≡ val x }
-{
-    if x { 1 } else { 0 }
+    let rises = if p.settings.measure == 1 {
+        p.marks.failed
+    } else {
+        p.marks.passed
+    };
+    usize::from(rises)
 }
 
 // The same in any mode: where the window is held at k, one once k picks are taken.
 fn rise_by(p: Place, mode: Mode) -> usize
     ensures { result ≡ rise_by mode p }
 {
-    let m = p.window.taken;
     match mode {
-        Mode::Kept => moved_by(p),
-        Mode::Unkept => moved_by(p),
-        Mode::Held(k) => one_if(k <= m.0),
+        Mode::Kept | Mode::Unkept => moved_by(p),
+        Mode::Held(k) => usize::from(k <= p.window.taken.0),
     }
 }
 
@@ -369,11 +341,9 @@ fn rise_by(p: Place, mode: Mode) -> usize
 fn is_untested(q: Place, mode: Mode) -> bool
     ensures { result ≡ untested_by mode q }
 {
-    let m = q.window.taken;
     match mode {
-        Mode::Kept => false,
-        Mode::Unkept => false,
-        Mode::Held(k) => m.0 < k,
+        Mode::Kept | Mode::Unkept => false,
+        Mode::Held(k) => q.window.taken.0 < k,
     }
 }
 
@@ -381,19 +351,7 @@ fn is_untested(q: Place, mode: Mode) -> bool
 fn is_spared(p: Place, kept: bool) -> bool
     ensures { result ≡ (not kept && spared p.settings) }
 {
-    if kept {
-        return false;
-    }
-    if p.settings.measure == 2 {
-        return true;
-    }
-    if p.settings.measure == 3 {
-        return true;
-    }
-    if p.settings.measure == 4 {
-        return true;
-    }
-    false
+    !kept && matches!(p.settings.measure, 2 | 3 | 4)
 }
 
 // ---- a pick taken

@@ -9,6 +9,3 @@ use Rattle.steps.proofs.build_left.Given as goal
 abbrev pub invariant-loop-i : goal.invariant-loop-i
 invariant-loop-i l = (l.s ≤ l.i) × (l.i ≤ l.m) × (length l.area ≡ length l.initial.area) × (length l.right ≡ length l.initial.right)
     × (l.area ≡ ladder (kit_of l.p.settings) l.initial.area l.m (l.m - l.i))
-
-abbrev pub decreases-loop-i : goal.decreases-loop-i
-decreases-loop-i l = l.i
