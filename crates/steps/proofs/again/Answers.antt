@@ -2,13 +2,8 @@
 -- Assumes nothing.
 use Rattle.steps.specs.Walk.{raised}
 use Rattle.steps.proofs.Grown.{raise_tries, raised_grown, grown_lends}
-use native.Mathlib.Omega.{arith}
-use Rattle.steps.proofs.Fit.{fit_less}
 use Rattle.steps.proofs.Closes.{again_closes}
 use Rattle.steps.proofs.again.Goals as goal
-
-pub raise-q-requires : goal.raise-q-requires
-raise-q-requires c = let h = c.requires in (fit_less 0 (omega arith) h.0, h.1, h.2)
 
 pub try_window-requires : goal.try_window-requires
 try_window-requires c =
