@@ -9,7 +9,7 @@ use Rattle.steps.proofs.rebuild.Goals as goal
 pub charged-requires : goal.charged-requires
 unfolding boundary_moved
 charged-requires c =
-    let f = c.requires.0 in (rw c.boundary_moved-q.ensures (omega (arith, f.comps)), omega (arith, f.able.cap, f.top))
+    let f = c.requires in (rw c.boundary_moved-q.ensures (omega (arith, f.comps)), omega (arith, f.able.cap, f.top))
 
 pub returns : goal.returns
 unfolding rebuilt

@@ -22,4 +22,4 @@ unfolding windowed window_area
 returns c =
     let e = le-leb _ _ c.if-b-s.false in
     simp (e, lt-ltb _ _ c.if-m-b.false)
-    (c.charged.ensures, window_copied _ _ c.requires.0 (simp (e, c.first_part-from.ensures) at c.copy_at.ensures) c.compose_at.ensures)
+    (c.charged.ensures, window_copied _ _ c.requires (simp (e, c.first_part-from.ensures) at c.copy_at.ensures) c.compose_at.ensures)
