@@ -19,12 +19,6 @@ take_picks-q-requires c =
       omega arith,
     )
 
-pub report-requires : goal.report-requires
-report-requires c =
-    let t = c.take_picks-q.ensures.1.all-taken in
-    let k = c.requires.cap in
-    (c.take_picks-q.ensures.1.inside c.requires.some_picks, omega arith)
-
 pub returns : goal.returns
 unfolding whole_report
 returns c =
