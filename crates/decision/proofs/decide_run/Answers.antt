@@ -1,11 +1,9 @@
 -- `decision::decide_run` meets its contract: the start, the picks, the words set to zero, the answer.
 -- Assumes nothing.
-use Prim.Native.Nat.{ℕ, ◌≤◌}
-use mathlib.Core.Path.{ap, sym, ◌∙◌, subst}
+use mathlib.Core.Path.{ap, ◌∙◌}
 use native.Mathlib.Omega.{arith}
 use Rattle.place.specs.declared.Place.{Place}
 use Rattle.place.specs.Places.{fresh, charged}
-use Rattle.verdicts.specs.Verdicts.{needed}
 use Rattle.calls.specs.Calls.{whole_start}
 use Rattle.calls.proofs.Loops.{whole_starts, whole_beyond, list-cost}
 use Rattle.decision.specs.Decisions.{decided_at, decision_report}
@@ -22,14 +20,6 @@ hold_window-q-requires c =
       c.requires.1,
       omega arith,
     )
-
-pub zero_needed-requires : goal.zero_needed-requires
-zero_needed-requires c = (
-  c.requires.0.few,
-  c.requires.0.cap,
-  subst (λ (x : ℕ). needed c.args.measure c.args.n c.args.m ≤ x) (sym (c.hold_window-q.auto.area ∙ c.whole_start-p.auto.area))
-      c.requires.0.room,
-)
 
 pub returns : goal.returns
 unfolding decision_report
