@@ -10,9 +10,9 @@ use Rattle.decision.specs.Decisions.{decided_at, decision_report}
 use Rattle.decision.proofs.Held.{held_ends}
 use Rattle.decision.proofs.decide_run.Goals as goal
 
-pub hold_window-q-requires : goal.hold_window-q-requires
+pub hold_picks-q-requires : goal.hold_picks-q-requires
 unfolding whole_start charged fresh
-hold_window-q-requires c =
+hold_picks-q-requires c =
     let b = c.requires.0.some_boards in
     let e = ap (λ (x : Place). x.settings.boards) c.whole_start-p.ensures.place in (
       whole_starts _ _ _ _ _ _ c.requires.0 (list-cost c.args.measure c.args.m c.requires.0.cap) c.whole_start-p.ensures.place
@@ -26,7 +26,7 @@ unfolding decision_report
 returns c =
     let b = c.whole_start-p.ensures in (
       c.answer_at.ensures ∙ ap decided_at (held_ends c.args.n c.args.measure c.args.m c.args.k c.args.words.now c.args.area.now
-          c.requires.0 c.requires.1 b c.whole_start-p.auto.area c.hold_window-q.ensures.does),
+          c.requires.0 c.requires.1 b c.whole_start-p.auto.area c.hold_picks-q.ensures.does),
       c.zero_needed.ensures ∙ whole_beyond c.args.n c.args.measure c.args.m c.args.words.now c.args.area.now _ b
-          c.hold_window-q.ensures.beyond,
+          c.hold_picks-q.ensures.beyond,
     )
