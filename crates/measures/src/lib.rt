@@ -1,5 +1,4 @@
-// What the walk needs of each measure: the words of a table, a pick's own table, the composition where it goes word by word, the test of a table. The
-// compositions of measures 3 and 4 are those of `joins` and `folds`.
+// What the walk needs of each measure: the words of a table, a pick's own table, the composition, the test of a table.
 #![tactic(auto)]
 
 ghost use Rattle.std.specs.Prelude.{◌≡◌, ◌≢◌, ◌^◌, ◌≤◌, ◌<◌, length};
@@ -27,6 +26,19 @@ pub fn compose_words(t: &mut [u32], right: &[u32], measure: usize, n: usize)
         return;
     }
     links::intersect_into(t, right, n);
+}
+
+// Composes right, the later table, onto t, the earlier, under any measure.
+#[tactic(auto, unfolding(crate::specs::Kit::size_of, crate::specs::Kit::join_of))]
+pub fn compose(t: &mut [u32], right: &[u32], measure: usize, n: usize)
+    requires { (n ≤ 32) × (size_of measure n ≡ length t.old) × (size_of measure n ≡ length right.now) }
+    ensures { t.new ≡ join_of measure n t.old right.now }
+{
+    match measure {
+        4 => folds::compose_over(t, right, n),
+        3 => joins::join_over(t, right, n),
+        _ => compose_words(t, right, measure, n),
+    }
 }
 
 // The own table of measure 4: the pairs joined within the pick are worked out in a local table of links.

@@ -7,7 +7,7 @@ use Rattle.steps.proofs.Fit.{ladder_none, ladder_turn}
 use Rattle.steps.proofs.build_left.Goals as goal
 
 pub loop-i-init : goal.loop-i-init
-loop-i-init c = (search rules, search rules, search rules, search rules, ladder_none _ _ _)
+loop-i-init c = (search rules, search rules, search rules, ladder_none _ _ _)
 
 pub loop-i-preserved : goal.loop-i-preserved
 loop-i-preserved c =
@@ -16,7 +16,6 @@ loop-i-preserved c =
       search rules,
       search rules,
       k.area ∙ v.2,
-      k.right ∙ v.3,
-      ladder_turn _ _ _ c.loop-i.i (omega arith) (omega arith) v.4
+      ladder_turn _ _ _ c.loop-i.i (omega arith) (omega arith) v.3
           c.compose_at.ensures,
     )

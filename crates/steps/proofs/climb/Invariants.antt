@@ -1,12 +1,8 @@
 -- `steps::climb` meets its contract. The loop's invariant: the rises that are left from here make the whole climb.
 -- Assumes nothing.
-use mathlib.Core.Path.{◌≡◌}
 use Prim.Native.Nat.{◌-◌}
-use lib.ListN.{length}
-use Rattle.steps.specs.Fit.{Lends}
 use Rattle.steps.proofs.Rises.{Climb}
 use Rattle.steps.proofs.climb.Given as goal
 
 abbrev pub invariant-loop : goal.invariant-loop
-invariant-loop l = Climb l.initial.q l.initial.area (l.end - l.initial.counter) l.q l.area (l.end - l.counter) × Lends l.q.settings (length l.right)
-    × (length l.right ≡ length l.initial.right)
+invariant-loop l = Climb l.initial.q l.initial.area (l.end - l.initial.counter) l.q l.area (l.end - l.counter)

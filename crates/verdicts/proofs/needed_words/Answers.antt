@@ -10,5 +10,3 @@ overflow_mul-result c = omega (
       c.requires.1 c.width-e.ensures,
 )
 
-pub returns : goal.returns
-returns c = simp c.width-e.ensures
