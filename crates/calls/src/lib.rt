@@ -87,8 +87,10 @@ pub fn open(
         × (area.new ≡ open_leaves n measure limit footprint.now area.old) }
 {
     let place = Place::NOWHERE;
-    verdicts::open_verdict(n, measure, limit, footprint, area)
-        .map_err(|cause| Refused { place, cause })?;
+    verdicts::open_verdict(n, measure, limit, footprint, area).map_err(|cause| Refused {
+        place,
+        cause,
+    })?;
     open_area(n, measure, limit, footprint, area);
     Ok(Place::open(measure, n, limit))
 }

@@ -35,7 +35,7 @@ compose-requires c =
       c.requires.0,
       sym c.size-k.ensures ∙ sym (lent_words _ _ c.split_at_mut-front.result.0.now (omega (arith, c.split_at_mut-front.ensures.front_len))),
       sym c.size-k.ensures ∙ sym (length-take-le _ c.split_at_mut-front.result.1.now
-      (omega (arith, lies c.width-e.ensures c.size-k.ensures (table_fits _) c.requires.2, c.split_at_mut-front.ensures.back_len))),
+          (omega (arith, lies c.width-e.ensures c.size-k.ensures (table_fits _) c.requires.2, c.split_at_mut-front.ensures.back_len))),
     )
 
 pub returns-then-d-r-2 : goal.returns-then-d-r-2
@@ -69,7 +69,7 @@ compose-requires-2 c =
     let s = apart c.requires.2.from h (fits_in c.args.measure _ c.width-e.ensures c.size-k.ensures) in (
       c.requires.0,
       sym c.size-k.ensures ∙ sym (length-take-le _ c.split_at_mut-front-2.result.1.now
-      (omega (arith, lies c.width-e.ensures c.size-k.ensures (table_fits _) c.requires.1, c.split_at_mut-front-2.ensures.back_len))),
+          (omega (arith, lies c.width-e.ensures c.size-k.ensures (table_fits _) c.requires.1, c.split_at_mut-front-2.ensures.back_len))),
       sym c.size-k.ensures ∙ sym (lent_words _ _ c.split_at_mut-front-2.result.0.now (omega (arith, c.split_at_mut-front-2.ensures.front_len))),
     )
 

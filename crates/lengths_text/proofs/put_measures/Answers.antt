@@ -10,4 +10,3 @@ loop-measure-init c = printed_start _ _ _ _ _
 pub loop-measure-preserved : goal.loop-measure-preserved
 loop-measure-preserved c = printed_turn c.loop-measure.invariant (omega arith) (omega arith) c.answer_of-answer.ensures
     c.put_answer-next.ensures.0 c.put_answer-next.ensures.1 c.put_answer-next.auto.out
-
