@@ -9,8 +9,8 @@ use lib.Seq.{length-take-le}
 use Rattle.lists.specs.Tab.{splice}
 use Rattle.lists.proofs.Splice.{read_front, splice_front}
 use Rattle.measures.specs.Kit.{Kit}
-use Rattle.area.specs.Parts.{part_size, table_at, put_table, compose_at}
-use Rattle.area.proofs.Stored.{table_lent, onto_lent}
+use Rattle.area.specs.Parts.{part_size, table_at, compose_at, copy_at}
+use Rattle.area.proofs.Stored.{table_lent, onto_lent, copy_lent}
 
 -- a part ends before a later one begins
 pub apart : {d r e k : ℕ} → 1 ≤ d → d < r → k ≤ e → (d - 1) * e + k ≤ (r - 1) * e
@@ -24,35 +24,30 @@ apart {d = suc d} {r} {e} l h f =
 pub lent_words : (at k : ℕ) (a : List ℕ) → at + k ≤ length a → length (take (at + k - at) (drop at a)) ≡ k
 lent_words at k a h = rw add-sub_cancel_left (length-take-le k (drop at a) (omega (arith, length-drop at a)))
 
+-- ---- what becomes of the cut area where k words of a part are written
+
+module _ (k : ℕ) (a F B : List ℕ) (f : a ≡ F ++ B) where
+  -- before the cut
+  pub front_put : (at : ℕ) (t : List ℕ) → at + k ≤ length F → splice at k t F ++ B ≡ splice at k t a
+  front_put at t l = sym (splice_front at k t F B l) ∙ ap (splice at k t) (sym f)
+
+  pub front_read : (at : ℕ) → at + k ≤ length F → take k (drop at F) ≡ take k (drop at a)
+  front_read at l = sym (read_front F B at k l) ∙ ap (λ (x : List ℕ). take k (drop at x)) (sym f)
+
+  -- at the cut
+  pub back_put : (at : ℕ) (t : List ℕ) → F ≡ take at a → B ≡ drop at a → F ++ (t ++ drop k B) ≡ splice at k t a
+  unfolding splice
+  back_put at t g h = ap₂ (λ (x y : List ℕ). x ++ (t ++ drop k y)) g h
+
 module _ (K : Kit) (a : List ℕ) {e k : ℕ} (p : e ≡ part_size K) (q : k ≡ K.size) where
-  -- the later table becomes what f makes of the words
-  composed : (d r : ℕ) {t w : List ℕ} → w ≡ table_at K a r → t ≡ K.join (take k (drop ((d - 1) * e) a)) w
+  -- the table of part d is composed with that of part r
+  pub composed : (d r : ℕ) {t s w : List ℕ} → s ≡ take k (drop ((d - 1) * e) a) → w ≡ take k (drop ((r - 1) * e) a) → t ≡ K.join s w
       → splice ((d - 1) * e) k t a ≡ compose_at K a d d r
   unfolding compose_at
-  composed d r g h =
-      ap (λ (x : List ℕ). splice ((d - 1) * e) k x a) (h ∙ ap (K.join (take k (drop ((d - 1) * e) a))) g)
+  composed d r i g h =
+      ap (λ (x : List ℕ). splice ((d - 1) * e) k x a) (h ∙ ap₂ K.join i (g ∙ table_lent K a r p q))
       ∙ onto_lent K a d p q (λ (u : List ℕ). K.join u (table_at K a r))
 
-  -- onto itself
-  pub cut_copy : (d : ℕ) {t : List ℕ} → t ≡ K.join (take k (drop ((d - 1) * e) a)) (take k (drop ((d - 1) * e) a))
-      → splice ((d - 1) * e) k t a ≡ compose_at K a d d d
-  cut_copy d h = composed d d (table_lent K a d p q) h
-
-  -- the later part lies behind the cut
-  pub cut_front : (d r : ℕ) (F B : List ℕ) {t : List ℕ} → a ≡ F ++ B → B ≡ drop ((r - 1) * e) a → (d - 1) * e + k ≤ length F
-      → t ≡ K.join (take k (drop ((d - 1) * e) F)) (take k B) → splice ((d - 1) * e) k t F ++ B ≡ compose_at K a d d r
-  cut_front d r F B {t} f g l h =
-      let at = (d - 1) * e in
-      sym (splice_front at k t F B l) ∙ ap (splice at k t) (sym f)
-      ∙ composed d r (ap (take k) g ∙ table_lent K a r p q)
-      (h ∙ ap (λ (x : List ℕ). K.join x (take k B)) (sym (read_front F B at k l) ∙ ap (λ (x : List ℕ). take k (drop at x)) (sym f)))
-
-  -- the earlier one does
-  pub cut_back : (d r : ℕ) (F B : List ℕ) {t : List ℕ} → a ≡ F ++ B → F ≡ take ((d - 1) * e) a → B ≡ drop ((d - 1) * e) a → (r - 1) * e + k ≤ length F
-      → t ≡ K.join (take k B) (take k (drop ((r - 1) * e) F)) → F ++ (t ++ drop k B) ≡ compose_at K a d d r
-  unfolding splice
-  cut_back d r F B {t} f g i l h =
-      let at = (r - 1) * e in
-      ap₂ (λ (x y : List ℕ). x ++ (t ++ drop k y)) g i
-      ∙ composed d r (sym (read_front F B at k l) ∙ ap (λ (x : List ℕ). take k (drop at x)) (sym f) ∙ table_lent K a r p q)
-      (h ∙ ap (λ (x : List ℕ). K.join (take k x) (take k (drop at F))) i)
+  -- that of part r becomes that of part d
+  pub copied : (d r : ℕ) {t : List ℕ} → t ≡ take k (drop ((r - 1) * e) a) → splice ((d - 1) * e) k t a ≡ copy_at K a d r
+  copied d r g = ap (λ (x : List ℕ). splice ((d - 1) * e) k x a) g ∙ copy_lent K a d r p q

@@ -11,7 +11,7 @@ use Rattle.lists.proofs.Splice.{written-part}
 use Rattle.measures.specs.Kit.{kit, join_of}
 use Rattle.area.proofs.Lent.{lies, size_most}
 use Rattle.area.proofs.Stored.{table_fits}
-use Rattle.area.proofs.Cut.{lent_words, cut_copy}
+use Rattle.area.proofs.Cut.{lent_words, composed}
 use Rattle.area.proofs.compose_itself.Goals as goal
 
 pub slice_bounds-right-end : goal.slice_bounds-right-end
@@ -41,4 +41,4 @@ returns c =
     let x = take_at _ (drop c.size-k.result c.zeroed-right.result) c.size-k.result (ap length c.copy_from_slice.ensures.after ∙ l)
     ∙ c.copy_from_slice.ensures.after in
     written-part _ _ _ (simp add-sub_cancel_left at (c.compose.ensures ∙ ap (join_of c.args.measure c.args.n _) x))
-    ∙ cut_copy (kit c.args.measure c.args.n) c.args.area.now c.width-e.ensures c.size-k.ensures c.args.d refl
+    ∙ composed (kit c.args.measure c.args.n) c.args.area.now c.width-e.ensures c.size-k.ensures c.args.d c.args.d refl refl refl

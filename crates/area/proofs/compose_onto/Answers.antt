@@ -5,12 +5,13 @@ use mathlib.Core.List.{◌++◌}
 use Prim.Native.Nat.{◌<◌}
 use native.Mathlib.Nat.{add-sub_cancel_left}
 use native.Mathlib.Omega.{arith}
+use lib.ListN.{take}
 use lib.Seq.{length-take-le}
 use Rattle.lists.proofs.Splice.{written-part}
 use Rattle.measures.specs.Kit.{kit}
 use Rattle.area.proofs.Lent.{lies, fits_in}
 use Rattle.area.proofs.Stored.{table_fits}
-use Rattle.area.proofs.Cut.{apart, lent_words, cut_front, cut_back}
+use Rattle.area.proofs.Cut.{apart, lent_words, front_put, front_read, back_put, composed}
 use Rattle.area.proofs.compose_onto.Goals as goal
 
 pub overflow_add-at : goal.overflow_add-at
@@ -43,8 +44,9 @@ returns-then-d-r-2 c =
     let s = apart c.requires.1.from c.if-d-r-2.true (fits_in c.args.measure _ c.width-e.ensures c.size-k.ensures) in
     let v = c.split_at_mut-front.ensures in
     ap (λ x. x ++ c.split_at_mut-front.result.1.now) (written-part _ _ _ (simp add-sub_cancel_left at c.compose.ensures))
-    ∙ cut_front (kit c.args.measure c.args.n) c.args.area.now c.width-e.ensures c.size-k.ensures c.args.d c.args.r _ _ v.value v.back
-    (omega (arith, v.front_len)) refl
+    ∙ front_put _ c.args.area.now _ _ v.value _ _ (omega (arith, v.front_len))
+    ∙ composed (kit c.args.measure c.args.n) c.args.area.now c.width-e.ensures c.size-k.ensures c.args.d c.args.r
+    (front_read _ c.args.area.now _ _ v.value _ (omega (arith, v.front_len))) (ap (take c.size-k.result) v.back) refl
 
 pub slice_bounds-compose-end-2 : goal.slice_bounds-compose-end-2
 slice_bounds-compose-end-2 c =
@@ -78,5 +80,6 @@ returns c =
     let h : c.args.r < c.args.d = omega (arith, c.if-d-r.false, c.if-d-r-2.false) in
     let s = apart c.requires.2.from h (fits_in c.args.measure _ c.width-e.ensures c.size-k.ensures) in
     let v = c.split_at_mut-front-2.ensures in
-    cut_back (kit c.args.measure c.args.n) c.args.area.now c.width-e.ensures c.size-k.ensures c.args.d c.args.r _ _ v.value v.front v.back
-    (omega (arith, v.front_len)) (simp add-sub_cancel_left at c.compose-2.ensures)
+    back_put _ c.args.area.now _ _ v.value _ _ v.front v.back
+    ∙ composed (kit c.args.measure c.args.n) c.args.area.now c.width-e.ensures c.size-k.ensures c.args.d c.args.r
+    (ap (take c.size-k.result) v.back) (front_read _ c.args.area.now _ _ v.value _ (omega (arith, v.front_len))) (simp add-sub_cancel_left at c.compose-2.ensures)
