@@ -110,6 +110,7 @@ pub fn narrow(x: usize) -> u32
 impl From<PlaceWords> for Place {
     ghost from_gives = { λ words place. place ≡ place_of words };
 
+    #[tactic(auto, unfolding(crate::specs::Words::place_of))]
     fn from(p: PlaceWords) -> Place {
         Place {
             settings: Settings {
@@ -134,6 +135,7 @@ impl From<PlaceWords> for Place {
     }
 }
 
+#[tactic(auto, unfolding(crate::specs::Words::words_of))]
 pub fn words_of(p: Place) -> PlaceWords
     requires { Narrow p }
     ensures { result ≡ words_of p }

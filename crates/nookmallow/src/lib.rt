@@ -75,6 +75,7 @@ pub fn nookmallow_pick(p: PlaceWords, area: &mut [u32], words: &[u32]) -> Handed
     }
 }
 
+#[tactic(auto, unfolding(crate::specs::Boundary::length_answers))]
 fn length_words(p: PlaceWords) -> AnswerWords
     ensures { result ≡ answer_words (length_answers p) }
 {

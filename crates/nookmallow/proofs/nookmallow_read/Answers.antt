@@ -10,8 +10,8 @@ use Rattle.nookmallow.proofs.nookmallow_read.Goals as goal
 
 pub narrow-requires : goal.narrow-requires
 narrow-requires c =
-    let g = read_law _ _ _ _ _ (sym (sym (ap reading_says c.in-Read.is) ∙ c.read.ensures.0)) in let h = g.high in small (omega arith)
+    let g = read_law _ _ _ _ _ (sym (sym (ap reading_says c.in-Ok.is) ∙ c.read.ensures.0)) in let h = g.high in small (omega arith)
 
-pub narrow-requires-in-Read : goal.narrow-requires-in-Read
-narrow-requires-in-Read c =
-    let g = read_law _ _ _ _ _ (sym (sym (ap reading_says c.in-Read.is) ∙ c.read.ensures.0)) in let h = g.few in search rules
+pub narrow-requires-in-Ok : goal.narrow-requires-in-Ok
+narrow-requires-in-Ok c =
+    let g = read_law _ _ _ _ _ (sym (sym (ap reading_says c.in-Ok.is) ∙ c.read.ensures.0)) in let h = g.few in search rules
