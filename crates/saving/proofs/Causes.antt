@@ -18,7 +18,7 @@ use Rattle.model.proofs.Refusals.{number_range}
 use Rattle.lists.specs.Tab.{splice}
 use Rattle.checks.specs.Lent.{clean_picks}
 use Rattle.checks.proofs.Lent.{lent-recording, recording_lent}
-use Rattle.saving.specs.declared.Saving.TheVariants.{Written, Refused}
+use Rattle.std.specs.Prelude.{Ok, Err}
 use Rattle.saving.specs.Answers.{Saved, saved, saving_says, lent_file, save_causes, save_verdict, save_says, save_leaves}
 use Rattle.saving.specs.May.{LentSequence, MaySave}
 
@@ -135,11 +135,11 @@ module _ (n : ℕ) (w out : List ℕ) where
 
   -- ---- as code arrives at it
 
-  pub refused_by : (r : Refusal) → number r ≡ save_verdict n w out → (saving_says (Refused r) ≡ save_says n w out) × (out ≡ save_leaves n w out)
+  pub refused_by : (r : Refusal) → number r ≡ save_verdict n w out → (saving_says (Err r) ≡ save_says n w out) × (out ≡ save_leaves n w out)
   refused_by r e =
       let p = refused_so (λ z. omega (arith, (number_range r).0)) in
       (ap (λ (c : ℕ). saved c 0) e ∙ sym p.0, sym p.1)
 
   pub written_by : {k : ℕ} {after : List ℕ} → 0 ≡ save_verdict n w out → k ≡ length bytes → after ≡ splice 0 (length bytes) bytes out
-      → (saving_says (Written k) ≡ save_says n w out) × (after ≡ save_leaves n w out)
+      → (saving_says (Ok k) ≡ save_says n w out) × (after ≡ save_leaves n w out)
   written_by e q f = let p = saved_so (sym e) in (ap (saved 0) q ∙ sym p.0, f ∙ sym p.1)

@@ -1,19 +1,24 @@
--- The parts that code lends for a pick and for the one before it. Assumes nothing.
+-- The parts that code lends for a pick and for the one before it, and a pass over the picks. Assumes nothing.
 use mathlib.Core.Path.{◌≡◌, refl, sym, ap, ◌∙◌}
-use mathlib.Core.List.{List, []}
-use Prim.Native.Nat.{ℕ, zero, suc, ◌+◌, ◌-◌, ◌*◌, ◌≤◌, ◌<◌}
-use native.Mathlib.Nat.{suc-mul, mul-le-mul}
+use mathlib.Core.Bool.{true}
+use mathlib.Core.List.{List, [], ◌++◌}
+use Prim.Native.Nat.{ℕ, zero, suc, ◌+◌, ◌-◌, ◌*◌, ◌/◌, ◌≤◌, ◌<◌, zero-le}
+use native.Mathlib.Nat.{zero-mul, suc-mul, div-mul-le_self, le_refl}
+use native.Mathlib.Numerals.{add-one}
 use native.Mathlib.Omega.{arith}
-use lib.ListN.{length, get_or, take, drop}
+use lib.ListN.{length, get_or, take, drop, length-append, length-drop}
+use lib.Seq.{take_at, drop_at, drop-drop}
+use Rattle.std.proofs.lemmas.Nat.{le-div, div_below}
 use Rattle.model.specs.Recording.{Clean, Recording}
 use Rattle.model.proofs.Windows.{pick-at}
-use Rattle.lists.specs.Tab.{zeros}
-use Rattle.lists.proofs.Zeros.{lent}
+use Rattle.links.specs.Picks.{lent_pick}
 use Rattle.links.proofs.Bits.{zeros-clean}
-use Rattle.checks.specs.Lent.{lent_picks}
-use Rattle.saving.specs.File.{links_at}
-use Rattle.links.proofs.Picks.{lent_end, lent_part}
-use Rattle.checks.proofs.Lent.{lent_at}
+use Rattle.model.proofs.Logic.{tr}
+use Rattle.checks.specs.Lent.{lent_picks, clean_picks}
+use Rattle.checks.proofs.Lent.{length_lent, lent-recording, lent_at}
+use Rattle.saving.specs.declared.Change.{Change}
+use Rattle.saving.specs.File.{links_at, acts_at}
+use Rattle.saving.specs.Changes.{pick_of, IsChangeAt}
 
 -- neither has a forbidden bit
 pub before_clean : (n : ℕ) (picks : List (List ℕ)) → Recording n picks → (k : ℕ) → k ≤ length picks → Clean n (links_at n picks k)
@@ -23,31 +28,70 @@ before_clean n picks r (suc k) h = pick-at n picks r (suc k) (omega arith) h
 pub pick_clean : (n : ℕ) (picks : List (List ℕ)) → Recording n picks → (k : ℕ) → k < length picks → Clean n (get_or picks k [])
 pick_clean n picks r k h = pick-at n picks r (suc k) (omega arith) h
 
--- the words are few enough to be counted
-pub few_words : (n m k : ℕ) → n ≤ 32 → m ≤ 4096 → k < m → k * n + n ≤ 131072
-few_words n m k a b h = omega (arith, lent_end n h, mul-le-mul b a)
+module _ (n : ℕ) (w : List ℕ) where
+  abbrev pub picks : List (List ℕ)
+  picks = lent_picks n w (length w / n)
 
-pub one_behind : (n k : ℕ) → (k ≡ 0 → ⊥) → n ≤ k * n
-one_behind n zero h = absurd (h refl)
-one_behind n (suc k) h = omega (arith, suc-mul k n)
+  pub this_pick : (k : ℕ) → k < length w / n → links_at n picks (suc k) ≡ lent_pick n w k
+  this_pick k h = lent_at n w (length w / n) k h
 
-module _ (n m k : ℕ) (w : List ℕ) (h : k < m) where
-  -- the pick
-  pub this_part : take (k * n + n - k * n) (drop (k * n) w) ≡ get_or (lent_picks n w m) k []
-  this_part = lent_part n k w ∙ sym (lent_at n w m k h)
+  -- the words before those of a pick
+  pub part_before : (k : ℕ) → k < length w / n → (k ≡ 0 → ⊥) → take (k * n - (k - 1) * n) (drop ((k - 1) * n) w) ≡ links_at n picks k
+  unfolding lent_pick
+  part_before zero h z = absurd (z refl)
+  part_before (suc j) h z =
+      let e : suc j - 1 ≡ j = omega arith in
+      let d : suc j * n - j * n ≡ n = omega (arith, suc-mul j n) in
+      rw (e, d) (sym (this_pick j (omega arith)))
 
-  -- the pick before it
-  pub last_part : (k ≡ 0 → ⊥) → take (k * n - (k * n - n)) (drop (k * n - n) w) ≡ links_at n (lent_picks n w m) k
-  last_part z = by k h z
-    where
-      by : (k : ℕ) → k < m → (k ≡ 0 → ⊥) → take (k * n - (k * n - n)) (drop (k * n - n) w) ≡ links_at n (lent_picks n w m) k
-      by zero h z = absurd (z refl)
-      by (suc j) h z =
-          let e : suc j * n - n ≡ j * n = omega (arith, suc-mul j n) in
-          let g : suc j * n ≡ j * n + n = suc-mul j n in
-          ap (λ (i : ℕ). take (suc j * n - i) (drop i w)) e ∙ ap (λ (i : ℕ). take (i - j * n) (drop (j * n) w)) g ∙ lent_part n j w
-          ∙ sym (lent_at n w m j (omega arith))
+  pub clean_before : ((j : ℕ) → j < length w / n → Clean n (lent_pick n w j)) → (k : ℕ) → k < length w / n → Clean n (links_at n picks k)
+  clean_before c zero h = zeros-clean n
+  clean_before c (suc j) h = rw (this_pick j (omega arith)) (c j (omega arith))
 
-  -- all links shut before the first
-  pub none_part : (r : List ℕ) → r ≡ zeros 32 → n ≤ 32 → k ≡ 0 → take (n - 0) r ≡ links_at n (lent_picks n w m) k
-  none_part r e l z = lent n 32 r e l ∙ rw z
+  -- the commands of the change to a pick
+  pub change_at : {k : ℕ} {c : Change} → IsChangeAt n w k c → pick_of c ≡ acts_at n picks k
+  unfolding acts_at
+  change_at i = rw (i.wide, i.was, i.is)
+
+  -- as the check of a lent sequence finds them
+  pub clean_lent : true ≡ clean_picks n w (length w / n) → (k : ℕ) → k < length w / n → Clean n (lent_pick n w k)
+  clean_lent e k h =
+      let m = length w / n in
+      let r = lent-recording n w m (div-mul-le_self (length w) n) (tr e tt) m (le_refl m) in
+      rw (this_pick k h) at (pick_clean n picks r k (rw length_lent h))
+
+-- ---- a pass over the picks: what is left of the words, in chunks of some size, after k picks
+
+pub record Passing (n : ℕ) (w : List ℕ) (k size : ℕ) (left : List ℕ) : Type 0 where
+  pub low : k ≤ length w / n
+  pub wide : size ≡ n
+  pub behind : left ≡ drop (k * n) w
+
+pub passing_start : {n size : ℕ} {w left : List ℕ} → size ≡ n → left ≡ w → Passing n w 0 size left
+passing_start {n} e f = record { low = zero-le; wide = e; behind = rw (zero-mul n) f }
+
+module _ {n k size : ℕ} {w left : List ℕ} (p : Passing n w k size left) (low : 1 ≤ n) where
+  -- the next chunk is the next pick
+  pub passing_turn : {next : ℕ} {pick more : List ℕ} → next ≡ size → left ≡ pick ++ more → length pick ≡ size
+      → (k < length w / n) × (pick ≡ lent_pick n w k) × Passing n w (k + 1) next more
+  unfolding lent_pick
+  passing_turn {next} {pick} {more} e f l =
+      let q : pick ++ more ≡ drop (k * n) w = sym f ∙ p.behind in
+      let i : length pick ≡ n = l ∙ p.wide in
+      let z : (k + 1) * n ≡ k * n + n = rw add-one (suc-mul k n) in
+      let r : (k + 1) * n ≤ length w = omega (arith, simp length-append at (ap length q), length-drop (k * n) w) in
+      let h = le-div (k + 1) (length w) n low r in (
+        omega arith,
+        sym (take_at pick more n i) ∙ ap (take n) q,
+        record {
+          low = h;
+          wide = e ∙ p.wide;
+          behind = sym (drop_at pick more n i) ∙ ap (drop n) q ∙ drop-drop n (k * n) w ∙ ap (λ (j : ℕ). drop j w) (sym z);
+        },
+      )
+
+  -- where no chunk is left, no pick is
+  pub passing_all : length left < size → k ≡ length w / n
+  passing_all h =
+      let z : (k + 1) * n ≡ k * n + n = rw add-one (suc-mul k n) in
+      omega (arith, div_below (length w) n (k + 1) low (omega (arith, ap length p.behind, length-drop (k * n) w, p.wide)), p.low)

@@ -3,7 +3,7 @@ pub mod Laws
 pub mod Causes
 pub mod Order
 pub mod Trip
-pub mod Change
+pub mod Partway
 pub mod Follows
 pub mod Acts
 pub mod Lends

@@ -9,6 +9,8 @@ use native.Mathlib.Omega.{arith}
 use lib.ListN.{length, get_or}
 use Rattle.model.specs.Recording.{link, Clean, Recording}
 use Rattle.model.proofs.Logic.{F→≡}
+use Rattle.model.proofs.Bits.{val_le}
+use Rattle.links.specs.Tables.{link_differs}
 use Rattle.saving.specs.File.{each, link_acts, row_acts, table_acts, change_acts, pick_acts, links_at, acts_at, file}
 use Rattle.saving.specs.Puts.{bytes_of}
 use Rattle.saving.proofs.Acts.{bytes_length}
@@ -29,7 +31,8 @@ module _ (n : ℕ) (old new : List ℕ) (c : Clean n old) (d : Clean n new) wher
   row_most a zero = (λ h. omega arith, λ h. absurd (not-suc-le-zero h))
   row_most a (suc k) =
       let i = row_most a k in
-      let s = link_size old new a k in (
+      let s = link_size old new a k in
+      let v = val_le (link_differs old new a k) in (
         λ h. simp bytes_length (omega (arith, i.0 (omega arith))),
         λ h. simp bytes_length
             (⊎_elim (λ (e : a ≡ k). let x = own_none false a k e in let y = own_none true a k e in rw (x, y) (omega (arith, i.0 (omega arith))))

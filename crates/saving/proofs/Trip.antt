@@ -23,7 +23,7 @@ use Rattle.saving.specs.File.{each, change_acts, pick_acts, links_at, acts_at, f
 use Rattle.saving.specs.Order.{Lasting, InOrder}
 use Rattle.saving.proofs.Lends.{before_clean, pick_clean}
 use Rattle.saving.proofs.Follows.{after, after-append, follow-append, befores-append}
-use Rattle.saving.proofs.Change.{change}
+use Rattle.saving.proofs.Partway.{change}
 use Rattle.saving.proofs.Order.{file_ordered, left_pick, change_left}
 
 -- ---- the commands of the picks so far

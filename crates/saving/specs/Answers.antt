@@ -1,11 +1,10 @@
 -- What the call answers and leaves, for every input. A cause is its number, 0 where there is none.
-use Rattle.std.specs.Prelude.{not, cond, List, [], ◌∷◌, ℕ, ◌/◌, ◌%◌, eqb, ltb, length, take}
+use Rattle.std.specs.Prelude.{not, cond, Result, Ok, Err, List, [], ◌∷◌, ℕ, ◌/◌, ◌%◌, eqb, ltb, length, take}
 use Rattle.model.specs.Causes.{between, Causes, first_of}
+use Rattle.model.specs.declared.Refusal.{Refusal}
 use Rattle.model.specs.Refusals.{number}
 use Rattle.lists.specs.Tab.{splice}
 use Rattle.checks.specs.Lent.{lent_picks, clean_picks}
-use Rattle.saving.specs.declared.Saving.{Saving}
-use Rattle.saving.specs.declared.Saving.TheVariants.{Written, Refused}
 use Rattle.saving.specs.File.{file}
 
 -- the number of the refusal, 0 for none; how many bytes the file has, 0 where refused
@@ -16,9 +15,9 @@ pub record Saved : Type 0 where
 abbrev pub saved : ℕ → ℕ → Saved
 saved c k = record { refusal = c; length = k }
 
-abbrev pub saving_says : Saving → Saved
-saving_says (Written k) = saved 0 k
-saving_says (Refused r) = saved (number r) 0
+abbrev pub saving_says : Result ℕ Refusal → Saved
+saving_says (Ok k) = saved 0 k
+saving_says (Err r) = saved (number r) 0
 
 -- the file of the words lent, n words a pick
 unfoldable pub lent_file : ℕ → List ℕ → List ℕ

@@ -1,0 +1,102 @@
+-- `Lent::write` meets its contract: 42 and n, the picks, and the 45, one behind the other.
+-- Assumes nothing.
+use mathlib.Core.Path.{◌≡◌, refl, sym, ◌∙◌}
+use mathlib.Core.List.{List}
+use Prim.Native.Nat.{ℕ, ◌≤◌, ◌/◌}
+use native.Mathlib.Omega.{arith}
+use lib.ListN.{length, set, length-set}
+use Rattle.std.specs.Iterator.Adapters.{enumerate_count}
+use Rattle.checks.proofs.Lent.{length_lent}
+use Rattle.recording.specs.Grammar.{Act, spell_file}
+use Rattle.saving.specs.File.{each, acts_at, file_acts, file}
+use Rattle.saving.specs.Puts.{Put}
+use Rattle.saving.specs.Answers.{lent_file}
+use Rattle.saving.proofs.Put.{wrote_start, wrote_room, wrote_turn, wrote_all, file_room, last_room, file_put}
+use Rattle.saving.proofs.Lends.{picks, change_at, passing_start, passing_turn, passing_all}
+use Rattle.saving.proofs.Lent.write.Goals as goal
+use Rattle.saving.proofs.Lent.write.Goals.{Start, After-put-2, In-None}
+
+-- the commands of all picks
+abbrev acts : ℕ → List ℕ → List Act
+acts n w = each (acts_at n (picks n w)) (length w / n)
+
+file_is : (n : ℕ) (w : List ℕ) → lent_file n w ≡ spell_file n (acts n w)
+unfolding lent_file file file_acts
+file_is n w = rw (length_lent n w (length w / n)) refl
+
+room : (c : Start) → length (spell_file c.args.self.now.n (acts c.args.self.now.n c.args.self.now.words.now)) ≤ length c.args.out.now
+room c = rw (file_is c.args.self.now.n c.args.self.now.words.now) at c.requires
+
+pub put-requires : goal.put-requires
+put-requires c = let s = c.args.self.now in omega (arith, file_room s.n (acts s.n s.words.now) c.args.out.now (room (goal.at.put-requires c).Start))
+
+pub put-requires-2 : goal.put-requires-2
+put-requires-2 c = let s = c.args.self.now in
+    rw (c.put.ensures.next, c.put.ensures.made, length-set)
+    (omega (arith, file_room s.n (acts s.n s.words.now) c.args.out.now (room (goal.at.put-requires-2 c).Start)))
+
+-- the output behind 42 and n
+begun : (c : After-put-2) → let o = c.put-2.new.self in let s = c.args.self.now in
+    (o.bytes.now ≡ set (set c.args.out.now 0 0x42) 1 s.n) × (o.at ≡ 2)
+begun c = (c.put-2.ensures.made ∙ rw (c.put.ensures.next, c.put.ensures.made) refl, c.put-2.ensures.next ∙ rw c.put.ensures.next refl)
+
+pub loop-k-init : goal.loop-k-init
+loop-k-init c =
+    let z : enumerate_count c.into_iter-k-iterator.result ≡ 0 = cc in
+    let s = c.args.self.now in
+    let b = begun (goal.at.loop-k-init c).After-put-2 in
+    let l = file_room s.n (acts s.n s.words.now) c.args.out.now (room (goal.at.loop-k-init c).Start) in
+    rw z record {
+      at = passing_start (cc) (cc);
+      there = refl;
+      wrote = wrote_start (rw (b.1, b.0, length-set, length-set) (omega arith));
+    }
+
+pub change-requires : goal.change-requires
+change-requires c =
+    let t = c.in-Some.ensures.steps in
+    let p = passing_turn c.loop-k.invariant.at (omega (arith, c.args.self.now.boards.0)) t.0.0 t.0.1.0 t.0.1.1 in
+    rw t.1 (p.0, p.1)
+
+pub write-requires : goal.write-requires
+write-requires c =
+    let t = c.in-Some.ensures.steps in
+    let s = c.args.self.now in
+    let p = passing_turn c.loop-k.invariant.at (omega (arith, s.boards.0)) t.0.0 t.0.1.0 t.0.1.1 in
+    rw (change_at s.n s.words.now c.change.ensures, t.1) (wrote_room c.loop-k.invariant.wrote p.0)
+
+pub loop-k-preserved : goal.loop-k-preserved
+loop-k-preserved c =
+    let t = c.in-Some.ensures.steps in
+    let s = c.args.self.now in
+    let i = c.loop-k.invariant in
+    let e = c.write.ensures in
+    let p = passing_turn i.at (omega (arith, s.boards.0)) t.0.0 t.0.1.0 t.0.1.1 in
+    rw t.2 record {
+      at = p.2;
+      there = e.there ∙ i.there;
+      wrote = wrote_turn i.wrote p.0 (rw (change_at s.n s.words.now c.change.ensures, t.1) at e.made);
+    }
+
+-- all picks are put behind 42 and n
+put_all : (c : In-None) → let s = c.args.self.now in
+    Put (set (set c.args.out.now 0 0x42) 1 s.n) c.loop-k.out.bytes.now 2 c.loop-k.out.at (acts s.n s.words.now)
+put_all c =
+    let t = c.in-None.ensures.steps in
+    let s = c.args.self.now in
+    let i = c.loop-k.invariant in
+    let b = begun (goal.at.In-None c).After-put-2 in
+    let k = passing_all i.at (omega (arith, s.boards.0)) t.0.1.0 in
+    rw (b.0, b.1) at (wrote_all i.wrote (omega arith))
+
+pub put-requires-3 : goal.put-requires-3
+put-requires-3 c = let s = c.args.self.now in
+    last_room s.n (acts s.n s.words.now) c.args.out.now (room (goal.at.put-requires-3 c).Start) (put_all (goal.at.put-requires-3 c).In-None)
+
+pub returns : goal.returns
+returns c =
+    let s = c.args.self.now in
+    let w = s.words.now in
+    let k = sym (c.put-3.ensures.there ∙ c.loop-k.invariant.there ∙ c.put-2.ensures.there ∙ c.put.ensures.there) in
+    let f = c.put-3.ensures.made ∙ file_put s.n (acts s.n w) c.args.out.now (room (goal.at.returns c).Start) (put_all (goal.at.returns c).In-None) in
+    rw (file_is s.n w) (grind arith)
