@@ -103,8 +103,10 @@ pub fn pick(p: Place, area: &mut [u32], words: &[u32]) -> Result<Place, Refused>
     ensures { (handed_says result ≡ pick_says p area.old words.now)
         × (area.new ≡ pick_leaves p area.old words.now) }
 {
-    verdicts::pick_verdict(p, area, words).map_err(|cause| Refused { place: p, cause })?;
-    Ok(steps::step(p, area, words, Mode::Kept))
+    match verdicts::pick_verdict(p, area, words) {
+        Ok(()) => Ok(steps::step(p, area, words, Mode::Kept)),
+        Err(cause) => Err(Refused { place: p, cause }),
+    }
 }
 
 // ---- length
