@@ -137,7 +137,9 @@ fn first_part(p: Place) -> usize
     }
 }
 
-// The window s to m goes to part limit + 2: a copy from the ladder that it begins on, and a composition where it lies on both.
+// The window s to m goes to part limit + 2: a copy from the ladder that it begins on, and a composition where it lies on both. In line, and `try_window`
+// too: as calls they cost a pick 60 instructions more.
+#[inline(always)]
 fn window(p: Place, area: &mut [u32]) -> Place
     requires { Fit p (length area.old) 0 }
     ensures { Does (windowed (kit_of p.settings)) p area.old result area.new }
@@ -177,6 +179,7 @@ fn judge(p: Place, area: &[u32]) -> Place
 }
 
 // One test of the window s to m.
+#[inline(always)]
 fn try_window(p: Place, area: &mut [u32]) -> Place
     requires { Fit p (length area.old) 1 }
     ensures { Does (tried (kit_of p.settings)) p area.old result area.new }
