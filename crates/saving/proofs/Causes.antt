@@ -1,4 +1,4 @@
--- The causes of the call: none holds exactly where the clauses do, and how code arrives at the answer. Assumes nothing.
+-- The causes of the call: none holds exactly where the clauses do, and what the call then answers and leaves. Assumes nothing.
 use mathlib.Core.Path.{◌≡◌, refl, sym, ap, ◌∙◌}
 use mathlib.Core.Logic.{◌↔◌, ⊎_elim}
 use mathlib.Core.Bool.{Bool, true, false, not}
@@ -10,16 +10,12 @@ use borrow.Author.Tests.{ltb-false, lt-ltb, le-ltb, eqb-true, not-false, ne_eqb}
 use lib.Dec.{eqb, ltb}
 use lib.ListN.{length}
 use Rattle.model.specs.Causes.{between, Causes, first_of}
-use Rattle.model.specs.Refusals.{number}
-use Rattle.model.specs.declared.Refusal.{Refusal}
 use Rattle.model.proofs.Causes.{cause_next, none_holds, between_says, holds_by, in-range, not_of_true}
 use Rattle.model.proofs.Logic.{tr, eq_or, le_or_lt}
-use Rattle.model.proofs.Refusals.{number_range}
 use Rattle.lists.specs.Tab.{splice}
 use Rattle.checks.specs.Lent.{clean_picks}
 use Rattle.checks.proofs.Lent.{lent-recording, recording_lent}
-use Rattle.std.specs.Prelude.{Ok, Err}
-use Rattle.saving.specs.Answers.{Saved, saved, saving_says, lent_file, save_causes, save_verdict, save_says, save_leaves}
+use Rattle.saving.specs.Answers.{Saved, saved, lent_file, save_causes, save_verdict, save_says, save_leaves}
 use Rattle.saving.specs.May.{LentSequence, MaySave}
 
 -- a later number: the test before it failed
@@ -132,14 +128,3 @@ module _ (n : ℕ) (w out : List ℕ) where
   save_refused f =
       let r = refused_so (λ e. f (save-says ∙ e)) in
       (r.0 ∙ ap (λ (c : ℕ). saved c 0) (sym save-says), r.1)
-
-  -- ---- as code arrives at it
-
-  pub refused_by : (r : Refusal) → number r ≡ save_verdict n w out → (saving_says (Err r) ≡ save_says n w out) × (out ≡ save_leaves n w out)
-  refused_by r e =
-      let p = refused_so (λ z. omega (arith, (number_range r).0)) in
-      (ap (λ (c : ℕ). saved c 0) e ∙ sym p.0, sym p.1)
-
-  pub written_by : {k : ℕ} {after : List ℕ} → 0 ≡ save_verdict n w out → k ≡ length bytes → after ≡ splice 0 (length bytes) bytes out
-      → (saving_says (Ok k) ≡ save_says n w out) × (after ≡ save_leaves n w out)
-  written_by e q f = let p = saved_so (sym e) in (ap (saved 0) q ∙ sym p.0, f ∙ sym p.1)

@@ -60,38 +60,52 @@ module _ (n : ℕ) (w : List ℕ) where
       let r = lent-recording n w m (div-mul-le_self (length w) n) (tr e tt) m (le_refl m) in
       rw (this_pick k h) at (pick_clean n picks r k (rw length_lent h))
 
--- ---- a pass over the picks: what is left of the words, in chunks of some size, after k picks
+-- ---- a pass over the picks, in chunks of n words: what is left of the words after k picks
 
 pub record Passing (n : ℕ) (w : List ℕ) (k size : ℕ) (left : List ℕ) : Type 0 where
+  pub some : 1 ≤ n
   pub low : k ≤ length w / n
   pub wide : size ≡ n
   pub behind : left ≡ drop (k * n) w
 
-pub passing_start : {n size : ℕ} {w left : List ℕ} → size ≡ n → left ≡ w → Passing n w 0 size left
-passing_start {n} e f = record { low = zero-le; wide = e; behind = rw (zero-mul n) f }
+pub passing_start : {n size : ℕ} {w left : List ℕ} → (2 ≤ n) × (n ≤ 32) → size ≡ n → left ≡ w → Passing n w 0 size left
+passing_start {n} b e f = record { some = omega (arith, b.0); low = zero-le; wide = e; behind = rw (zero-mul n) f }
 
-module _ {n k size : ℕ} {w left : List ℕ} (p : Passing n w k size left) (low : 1 ≤ n) where
-  -- the next chunk is the next pick
-  pub passing_turn : {next : ℕ} {pick more : List ℕ} → next ≡ size → left ≡ pick ++ more → length pick ≡ size
-      → (k < length w / n) × (pick ≡ lent_pick n w k) × Passing n w (k + 1) next more
+-- the chunk that comes next, with its number: the pick with so many before it
+pub record NextPick (n : ℕ) (w : List ℕ) (k i next size : ℕ) (pick more : List ℕ) : Type 0 where
+  pub number : i ≡ k
+  pub next_number : next ≡ k + 1
+  pub inside : i < length w / n
+  pub is : pick ≡ lent_pick n w i
+  pub on : Passing n w next size more
+
+module _ {n k size : ℕ} {w left : List ℕ} (p : Passing n w k size left) where
+  -- a step of `chunks_exact` under `enumerate`
+  pub passing_turn : {R Q : Type 0} {i next size₂ : ℕ} {pick more : List ℕ}
+      → ((size₂ ≡ size) × ((left ≡ pick ++ more) × (length pick ≡ size)) × R) × (i ≡ k) × (next ≡ k + 1) × Q
+      → NextPick n w k i next size₂ pick more
   unfolding lent_pick
-  passing_turn {next} {pick} {more} e f l =
-      let q : pick ++ more ≡ drop (k * n) w = sym f ∙ p.behind in
-      let i : length pick ≡ n = l ∙ p.wide in
+  passing_turn {i = i} {pick = pick} {more = more} t =
+      let q : pick ++ more ≡ drop (k * n) w = sym t.0.1.0 ∙ p.behind in
+      let l : length pick ≡ n = t.0.1.1 ∙ p.wide in
       let z : (k + 1) * n ≡ k * n + n = rw add-one (suc-mul k n) in
       let r : (k + 1) * n ≤ length w = omega (arith, simp length-append at (ap length q), length-drop (k * n) w) in
-      let h = le-div (k + 1) (length w) n low r in (
-        omega arith,
-        sym (take_at pick more n i) ∙ ap (take n) q,
-        record {
+      let h = le-div (k + 1) (length w) n p.some r in
+      rw (t.1, t.2) record {
+        number = refl;
+        next_number = refl;
+        inside = omega arith;
+        is = sym (take_at pick more n l) ∙ ap (take n) q;
+        on = record {
+          some = p.some;
           low = h;
-          wide = e ∙ p.wide;
-          behind = sym (drop_at pick more n i) ∙ ap (drop n) q ∙ drop-drop n (k * n) w ∙ ap (λ (j : ℕ). drop j w) (sym z);
-        },
-      )
+          wide = t.0.0 ∙ p.wide;
+          behind = sym (drop_at pick more n l) ∙ ap (drop n) q ∙ drop-drop n (k * n) w ∙ ap (λ (j : ℕ). drop j w) (sym z);
+        };
+      }
 
   -- where no chunk is left, no pick is
   pub passing_all : length left < size → k ≡ length w / n
   passing_all h =
       let z : (k + 1) * n ≡ k * n + n = rw add-one (suc-mul k n) in
-      omega (arith, div_below (length w) n (k + 1) low (omega (arith, ap length p.behind, length-drop (k * n) w, p.wide)), p.low)
+      omega (arith, div_below (length w) n (k + 1) p.some (omega (arith, ap length p.behind, length-drop (k * n) w, p.wide)), p.low)

@@ -18,7 +18,7 @@ use Rattle.links.proofs.Bits.{bit_left, bit_out}
 use Rattle.recording.specs.Grammar.{sets}
 use Rattle.saving.specs.File.{becomes, link_acts, row_acts}
 use Rattle.saving.specs.Puts.{bytes_of, Put, Changed}
-use Rattle.saving.proofs.Put.{Wrote, wrote_start, wrote_room, wrote_turn, wrote_long, wrote_on, wrote_all}
+use Rattle.saving.proofs.Put.{Wrote, wrote_start, wrote_room, wrote_turn, wrote_on, wrote_all}
 
 -- a bit that is set where another is cleared was set before
 without_in : (x w v : ℕ) → T (bit (without x w) v) → T (bit x v)
@@ -55,9 +55,6 @@ module _ {x : Bool} {old new : List ℕ} {n a at : ℕ} {out₀ out : List ℕ} 
   reached : (j : ℕ) → p.k ≤ j → j ≤ n → ((b : ℕ) → b < j → bit rest b ≡ false) → Wrote (link_acts x old new a) n at out₀ out next j
   unfolding link_acts
   reached j l h z = wrote_on j l h (λ i s t. rw (sym (p.onward i s (omega arith)) ∙ z i t)) p.wrote
-
-  pub passed_long : length out ≡ length out₀
-  passed_long = wrote_long p.wrote
 
   pub passed_all : rest ≡ 0 → Put out₀ out at next (row_acts x old new n a)
   unfolding row_acts

@@ -38,10 +38,12 @@ unfoldable pub save_verdict : ℕ → List ℕ → List ℕ → ℕ
 save_verdict n w out = first_of (save_causes n w out)
 
 unfoldable pub save_says : ℕ → List ℕ → List ℕ → Saved
+unfolding first_of save_verdict
 save_says n w out = cond (eqb (save_verdict n w out) 0) (saved 0 (length (lent_file n w))) (saved (save_verdict n w out) 0)
 
 -- the first bytes are the file, and the others stay; refused: every byte as it was
 unfoldable pub save_leaves : ℕ → List ℕ → List ℕ → List ℕ
+unfolding first_of save_verdict
 save_leaves n w out = cond (eqb (save_verdict n w out) 0) (splice 0 (length (lent_file n w)) (lent_file n w) out) out
 
 -- the file that a call has written: as many bytes of the output as it answers

@@ -83,6 +83,7 @@ impl Change<'_> {
     ghost use Rattle.saving.specs.Changes.{row_of, table_of, changes_of, pick_of, size_of, HasRoom, Puts};
 
     // The bytes of the pick: three for each link that is not as it was, and its 50.
+    #[tactic(auto, using(crate::proofs::Size::pick_size, crate::proofs::Size::few_links))]
     fn size(&self) -> usize
         ensures { (result ≡ size_of (pick_of self.now)) × (result ≤ 3073) }
     {
@@ -201,7 +202,7 @@ impl<'a> Lent<'a> {
 // ---- the call
 
 // Writes the file of a lent sequence, n words a pick, and answers how many bytes it has; or says why not, and no byte changed.
-#[tactic(auto, using(model::proofs::Causes::between_says), unfolding(model::specs::Causes::first_of, crate::specs::Answers::save_verdict, crate::specs::Answers::save_says, crate::specs::Answers::save_leaves))]
+#[tactic(auto, using(model::proofs::Causes::between_says), unfolding(crate::specs::Answers::save_says, crate::specs::Answers::save_leaves))]
 pub fn save(n: usize, words: &[u32], out: &mut [u8]) -> Result<usize, Refusal>
     ensures { (saving_says result ≡ save_says n words.now out.old)
         × (out.new ≡ save_leaves n words.now out.old) }

@@ -20,40 +20,28 @@ pub loop-k-init : goal.loop-k-init
 unfolding each bytes_of
 loop-k-init c =
     let z : enumerate_count c.into_iter-k-iterator.result ≡ 0 = cc in
-    rw z record { at = passing_start (cc) (cc); sum = refl; few = omega arith }
+    rw z record { at = passing_start c.args.self.now.boards (cc) (cc); sum = refl; few = omega arith }
 
 pub change-requires : goal.change-requires
-change-requires c =
-    let t = c.in-Some.ensures.steps in
-    let p = passing_turn c.loop-k.invariant.at (omega (arith, c.args.self.now.boards.0)) t.0.0 t.0.1.0 t.0.1.1 in
-    rw t.1 (p.0, p.1)
-
-pub overflow_add-size : goal.overflow_add-size
-overflow_add-size c =
-    let t = c.in-Some.ensures.steps in
-    let s = c.args.self.now in
-    let p = passing_turn c.loop-k.invariant.at (omega (arith, s.boards.0)) t.0.0 t.0.1.0 t.0.1.1 in
-    omega (arith, c.loop-k.invariant.few, c.size-size.ensures.1, p.0, s.few)
+change-requires c = let t = passing_turn c.loop-k.invariant.at c.in-Some.ensures.steps in (t.inside, t.is)
 
 pub loop-k-preserved : goal.loop-k-preserved
 unfolding each
 loop-k-preserved c =
-    let t = c.in-Some.ensures.steps in
+    let t = passing_turn c.loop-k.invariant.at c.in-Some.ensures.steps in
     let s = c.args.self.now in
     let i = c.loop-k.invariant in
-    let p = passing_turn i.at (omega (arith, s.boards.0)) t.0.0 t.0.1.0 t.0.1.1 in
-    let e = c.size-size.ensures.0 ∙ ap size_of (rw t.1 at (change_at s.n s.words.now c.change.ensures)) in
-    rw t.2 record {
-      at = p.2;
-      sum = rw (add-one, bytes_length) (omega (arith, i.sum, e));
-      few = omega (arith, i.few, c.size-size.ensures.1);
+    let e = c.size-size.ensures.0 ∙ ap size_of (rw t.number at (change_at s.n s.words.now c.change.ensures)) in
+    record {
+      at = t.on;
+      sum = rw (t.next_number, add-one, bytes_length) (omega (arith, i.sum, e));
+      few = omega (arith, i.few, c.size-size.ensures.1, t.next_number);
     }
 
 pub returns : goal.returns
 unfolding lent_file
 returns c =
-    let t = c.in-None.ensures.steps in
     let s = c.args.self.now in
     let w = s.words.now in
     let i = c.loop-k.invariant in
-    rw (passing_all i.at (omega (arith, s.boards.0)) t.0.1.0) at i.sum ∙ file-size s.n (picks s.n w) (length w / s.n) (length_lent s.n w (length w / s.n))
+    rw (passing_all i.at c.in-None.ensures.steps.0.1.0) at i.sum ∙ file-size s.n (picks s.n w) (length w / s.n) (length_lent s.n w (length w / s.n))

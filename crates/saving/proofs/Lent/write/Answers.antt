@@ -47,46 +47,40 @@ loop-k-init c =
     let b = begun (goal.at.loop-k-init c).After-put-2 in
     let l = file_room s.n (acts s.n s.words.now) c.args.out.now (room (goal.at.loop-k-init c).Start) in
     rw z record {
-      at = passing_start (cc) (cc);
+      at = passing_start s.boards (cc) (cc);
       there = refl;
       wrote = wrote_start (rw (b.1, b.0, length-set, length-set) (omega arith));
     }
 
 pub change-requires : goal.change-requires
-change-requires c =
-    let t = c.in-Some.ensures.steps in
-    let p = passing_turn c.loop-k.invariant.at (omega (arith, c.args.self.now.boards.0)) t.0.0 t.0.1.0 t.0.1.1 in
-    rw t.1 (p.0, p.1)
+change-requires c = let t = passing_turn c.loop-k.invariant.at c.in-Some.ensures.steps in (t.inside, t.is)
 
 pub write-requires : goal.write-requires
 write-requires c =
-    let t = c.in-Some.ensures.steps in
+    let t = passing_turn c.loop-k.invariant.at c.in-Some.ensures.steps in
     let s = c.args.self.now in
-    let p = passing_turn c.loop-k.invariant.at (omega (arith, s.boards.0)) t.0.0 t.0.1.0 t.0.1.1 in
-    rw (change_at s.n s.words.now c.change.ensures, t.1) (wrote_room c.loop-k.invariant.wrote p.0)
+    rw (change_at s.n s.words.now c.change.ensures, t.number) (wrote_room c.loop-k.invariant.wrote (rw t.number at t.inside))
 
 pub loop-k-preserved : goal.loop-k-preserved
 loop-k-preserved c =
-    let t = c.in-Some.ensures.steps in
+    let t = passing_turn c.loop-k.invariant.at c.in-Some.ensures.steps in
     let s = c.args.self.now in
     let i = c.loop-k.invariant in
     let e = c.write.ensures in
-    let p = passing_turn i.at (omega (arith, s.boards.0)) t.0.0 t.0.1.0 t.0.1.1 in
-    rw t.2 record {
-      at = p.2;
+    record {
+      at = t.on;
       there = e.there ∙ i.there;
-      wrote = wrote_turn i.wrote p.0 (rw (change_at s.n s.words.now c.change.ensures, t.1) at e.made);
+      wrote = rw t.next_number
+          (wrote_turn i.wrote (rw t.number at t.inside) (rw (change_at s.n s.words.now c.change.ensures, t.number) at e.made));
     }
 
 -- all picks are put behind 42 and n
 put_all : (c : In-None) → let s = c.args.self.now in
     Put (set (set c.args.out.now 0 0x42) 1 s.n) c.loop-k.out.bytes.now 2 c.loop-k.out.at (acts s.n s.words.now)
 put_all c =
-    let t = c.in-None.ensures.steps in
-    let s = c.args.self.now in
     let i = c.loop-k.invariant in
     let b = begun (goal.at.In-None c).After-put-2 in
-    let k = passing_all i.at (omega (arith, s.boards.0)) t.0.1.0 in
+    let k = passing_all i.at c.in-None.ensures.steps.0.1.0 in
     rw (b.0, b.1) at (wrote_all i.wrote (omega arith))
 
 pub put-requires-3 : goal.put-requires-3
