@@ -19,10 +19,6 @@ use Rattle.lists.proofs.Tab.{every_in, every_out}
 
 -- ---- a loop that counts
 
-pub many_none : (f : ℕ → Bool) → how_many f 0 ≡ 0
-unfolding how_many
-many_none f = refl
-
 pub many_next : (f : ℕ → Bool) (k : ℕ) → how_many f (k + 1) ≡ how_many f k + val (f k)
 unfolding how_many
 many_next f k = rw add-one

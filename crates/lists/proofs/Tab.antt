@@ -1,15 +1,15 @@
 -- Laws of lists made by index, and the invariants of the loops that write them. Assumes nothing.
 use mathlib.Core.Path.{◌≡◌, refl, ap, ap₂, ◌∙◌, sym}
 use mathlib.Core.Bool.{Bool, true, false, ◌&&◌}
-use mathlib.Core.List.{List, [], ◌∷◌, ◌++◌, append-nil, append_assoc}
-use Prim.Native.Nat.{ℕ, zero, suc, ◌+◌, ◌≤◌, ◌<◌, zero-le}
+use mathlib.Core.List.{List, [], ◌∷◌, ◌++◌}
+use Prim.Native.Nat.{ℕ, zero, suc, ◌+◌, ◌≤◌, ◌<◌}
 use native.Mathlib.Numerals.{add-one}
 use mathlib.Core.Logic.{⊎_elim}
 use native.Mathlib.Omega.{arith}
 use native.Mathlib.Nat.{not-suc-le-zero, eq-or-lt_of_le, le_of_suc-le-suc}
 use lib.Dec.{T}
-use lib.ListN.{length, drop, set, get_or, length-append, drop_of_length-le, length-set, get_or-append, length-replicate, replicate}
-use lib.Seq.{set_at, get_or_at, drop-cons, ext_get_or}
+use lib.ListN.{length, get_or, length-append, get_or-append, length-replicate, replicate}
+use lib.Seq.{get_or_at, ext_get_or}
 use Rattle.model.proofs.Logic.{and_both, and_l, and_r}
 use Rattle.lists.specs.Tab.{tab, zeros, every}
 
@@ -26,45 +26,17 @@ get_or-tab f (suc k) i h =
     (λ l. get_or-append (tab f k) (f k ∷ []) 0 i (omega (arith, length-tab f k)) ∙ get_or-tab f k i l)
     (eq-or-lt_of_le (le_of_suc-le-suc h))
 
--- The invariant of a loop that writes a table of n words by index: t is f's words below u, and t₀'s from u on.
--- A function's `invariant-loop-x` is a `Made`; `made_start`, `made_turn`, `made_read` and `made_all` answer its goals.
-pub record Made (f : ℕ → ℕ) (n : ℕ) (t₀ t : List ℕ) (u : ℕ) : Type 0 where
-  pub size : n ≡ length t₀
-  pub low : u ≤ n
-  pub long : length t ≡ n
-  pub made : t ≡ tab f u ++ drop u t₀
+-- The invariant of a loop that writes the words of t in turn: those below u are f's, the others are t₀'s. The check finds each turn by itself.
+pub record Made (f : ℕ → ℕ) (t₀ t : List ℕ) (u : ℕ) : Type 0 where
+  pub long : length t ≡ length t₀
+  pub made : (k : ℕ) → k < u → get_or t k 0 ≡ f k
+  pub left : (k : ℕ) → u ≤ k → get_or t k 0 ≡ get_or t₀ k 0
 
-pub made_start : {f : ℕ → ℕ} {n : ℕ} {t₀ : List ℕ} → n ≡ length t₀ → Made f n t₀ t₀ 0
-unfolding tab
-made_start e = record { size = e; low = zero-le; long = sym e; made = refl }
-
-module _ {f : ℕ → ℕ} {n : ℕ} {t₀ t : List ℕ} {u : ℕ} (m : Made f n t₀ t u) where
-  -- what the loop has not reached is as it was
-  pub made_read : u < n → get_or t u 0 ≡ get_or t₀ u 0
-  made_read h =
-      let l : u < length t₀ = omega arith in
-      rw (m.made, drop-cons t₀ u 0) (get_or_at (tab f u) _ _ 0 u (length-tab f u))
-
-  -- a turn: the store at u
-  pub made_turn : {v : ℕ} → u < n → v ≡ f u → Made f n t₀ (set t u v) (u + 1)
-  unfolding tab
-  made_turn {v} h q =
-      let l : u < length t₀ = omega arith in
-      record {
-        size = m.size;
-        low = omega arith;
-        long = length-set t u v ∙ m.long;
-        made =
-            rw (m.made, q, add-one, drop-cons t₀ u 0)
-            (set_at (tab f u) _ _ (f u) u (length-tab f u) ∙ sym (append_assoc (tab f u) (f u ∷ []) _));
-      }
-
-  -- the loop's end
-  pub made_all : n ≤ u → t ≡ tab f n
-  made_all h =
-      let q : u ≡ n = omega (arith, m.low) in
-      let r : length t₀ ≤ n = omega (arith, m.size) in
-      m.made ∙ rw (q, drop_of_length-le t₀ {i = n} r) (append-nil (tab f n))
+-- the loop's end
+pub made_all : {f : ℕ → ℕ} {n : ℕ} {t₀ t : List ℕ} {u : ℕ} → Made f t₀ t u → length t₀ ≡ n → n ≤ u → t ≡ tab f n
+made_all {f} {n} {t₀} {t} m e h =
+    ext_get_or 0 t (tab f n) (m.long ∙ e ∙ sym (length-tab f n))
+    (λ i l. m.made i (omega (arith, m.long)) ∙ sym (get_or-tab f n i (omega (arith, m.long))))
 
 -- lists made by index are equal when their elements are
 pub tab_ext : (f g : ℕ → ℕ) (k : ℕ) → ((i : ℕ) → i < k → f i ≡ g i) → tab f k ≡ tab g k
