@@ -3,7 +3,8 @@ use mathlib.Core.Path.{◌≡◌, refl, ap, ap₂, ◌∙◌, sym, subst}
 use mathlib.Core.Logic.{◌↔◌}
 use mathlib.Core.Bool.{Bool, true, false, not}
 use Prim.Native.Nat.{ℕ, zero, suc, ◌+◌, ◌*◌, ◌/◌, ◌%◌, ◌^◌, ◌≤◌, ◌<◌, zero-le}
-use native.Mathlib.Nat.{add_assoc, add-zero, suc-mul, mul-le-mul, div-one}
+use native.Mathlib.Nat.{add_assoc, add-zero, suc-mul, mul-le-mul, div-one, one-mul, mod-eq_of_lt}
+use lib.Pow.{pow-lt}
 use native.Mathlib.Numerals.{add-one}
 use native.Mathlib.Omega.{arith}
 use lib.Count.{ones, ones_step}
@@ -105,6 +106,10 @@ none_denied f g n k e =
     denied_not false h = absurd (h tt)
 
 -- ---- the set bits of a word
+
+-- the word of bit v alone, as a shift gives it
+pub one_bit : (v : ℕ) → v < 32 → 1 * 2 ^ v % 2 ^ 32 ≡ 2 ^ v
+one_bit v h = simp (one-mul, mod-eq_of_lt (pow-lt {j = 32} h))
 
 many_first : (f : ℕ → Bool) (k : ℕ) → how_many f (suc k) ≡ val (f 0) + how_many (λ i. f (suc i)) k
 unfolding how_many
