@@ -35,7 +35,7 @@ pub fn board_in(set: u32) -> usize
     requires { set ≢ 0 }
     ensures { (result < 32) × T (bit set result) × ((b : ℕ) → b < result → bit set b ≡ false) }
 {
-    u32::trailing_zeros(set) as usize
+    set.trailing_zeros() as usize
 }
 
 // The word of the bits below n.
@@ -151,7 +151,7 @@ pub fn differing(left: &[u32], right: &[u32], n: usize) -> u32
 {
     let mut k = 0u32;
     for (u, row) in left[..n].iter().enumerate() {
-        k += u32::count_ones(*row ^ right[u]);
+        k += (*row ^ right[u]).count_ones();
     }
     k
 }

@@ -6,7 +6,8 @@ use Prim.Native.Nat.{ℕ, zero, suc, ◌+◌, ◌≤◌, ◌<◌}
 use native.Mathlib.Numerals.{add-one}
 use mathlib.Core.Logic.{⊎_elim}
 use native.Mathlib.Omega.{arith}
-use native.Mathlib.Nat.{not-suc-le-zero, eq-or-lt_of_le, le_of_suc-le-suc}
+use native.Mathlib.Nat.{not-suc-le-zero, eq-or-lt_of_le, le_of_suc-le-suc, add-zero, zero-add}
+use Rattle.std.specs.List.{list_all, range_with_len}
 use lib.Dec.{T}
 use lib.ListN.{length, get_or, length-append, get_or-append, length-replicate, replicate}
 use lib.Seq.{get_or_at, ext_get_or}
@@ -26,6 +27,10 @@ get_or-tab f (suc k) i h =
     (λ l. get_or-append (tab f k) (f k ∷ []) 0 i (omega (arith, length-tab f k)) ∙ get_or-tab f k i l)
     (eq-or-lt_of_le (le_of_suc-le-suc h))
 
+-- a list whose words are f's
+pub tab_of : (f : ℕ → ℕ) (n : ℕ) (t : List ℕ) → length t ≡ n → ((k : ℕ) → k < n → get_or t k 0 ≡ f k) → t ≡ tab f n
+tab_of f n t e h = ext_get_or 0 t (tab f n) (e ∙ sym (length-tab f n)) (λ i l. h i (omega arith) ∙ sym (get_or-tab f n i (omega arith)))
+
 -- The invariant of a loop that writes the words of t in turn: those below u are f's, the others are t₀'s. The check finds each turn by itself.
 pub record Made (f : ℕ → ℕ) (t₀ t : List ℕ) (u : ℕ) : Type 0 where
   pub long : length t ≡ length t₀
@@ -34,9 +39,7 @@ pub record Made (f : ℕ → ℕ) (t₀ t : List ℕ) (u : ℕ) : Type 0 where
 
 -- the loop's end
 pub made_all : {f : ℕ → ℕ} {n : ℕ} {t₀ t : List ℕ} {u : ℕ} → Made f t₀ t u → length t₀ ≡ n → n ≤ u → t ≡ tab f n
-made_all {f} {n} {t₀} {t} m e h =
-    ext_get_or 0 t (tab f n) (m.long ∙ e ∙ sym (length-tab f n))
-    (λ i l. m.made i (omega (arith, m.long)) ∙ sym (get_or-tab f n i (omega (arith, m.long))))
+made_all {f} {n} {t₀} {t} m e h = tab_of f n t (m.long ∙ e) (λ i l. m.made i (omega arith))
 
 -- lists made by index are equal when their elements are
 pub tab_ext : (f g : ℕ → ℕ) (k : ℕ) → ((i : ℕ) → i < k → f i ≡ g i) → tab f k ≡ tab g k
@@ -74,6 +77,14 @@ pub every-next : (f : ℕ → Bool) (k : ℕ) → every f k ≡ true → f k ≡
 unfolding every
 every-next f k e g = rw (add-one, e, g)
 
+and_yes : (a : Bool) → a && true ≡ a
+and_yes true = refl
+and_yes false = refl
+
+and_assoc : (a b c : Bool) → (a && b) && c ≡ a && (b && c)
+and_assoc true b c = refl
+and_assoc false b c = refl
+
 and_no : (a : Bool) → a && false ≡ false
 and_no true = refl
 and_no false = refl
@@ -104,3 +115,17 @@ pub every_ext : (f g : ℕ → Bool) (k : ℕ) → ((i : ℕ) → i < k → f i 
 unfolding every
 every_ext f g zero h = refl
 every_ext f g (suc k) h = ap₂ ◌&&◌ (every_ext f g k (λ i l. h i (omega arith))) (h k (omega arith))
+
+-- the test as an iterator makes it, over the numbers below k
+all_from : (f : ℕ → Bool) (i k : ℕ) → every f i && list_all f (range_with_len i k) ≡ every f (i + k)
+unfolding every
+all_from f i zero = rw add-zero (and_yes (every f i))
+all_from f i (suc k) =
+    let e : i + 1 ≡ suc i = omega arith in
+    let g : suc i + k ≡ i + suc k = omega arith in
+    sym (and_assoc (every f i) (f i) (list_all f (range_with_len (i + 1) k)))
+    ∙ ap (λ (j : ℕ). every f (suc i) && list_all f (range_with_len j k)) e ∙ all_from f (suc i) k ∙ ap (every f) g
+
+pub every_range : (f : ℕ → Bool) (k : ℕ) → list_all f (range_with_len 0 k) ≡ every f k
+unfolding every
+every_range f k = all_from f 0 k ∙ ap (every f) (zero-add k)

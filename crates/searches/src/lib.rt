@@ -32,7 +32,7 @@ pub fn unmarked(t: &[u32], n: usize) -> u32
     let all = links::low_bits(n);
     let mut k = 0u32;
     for (u, row) in t[..n].iter().enumerate() {
-        k += u32::count_ones(all & !(*row | (1u32 << u)));
+        k += (all & !(*row | (1u32 << u))).count_ones();
     }
     k
 }
