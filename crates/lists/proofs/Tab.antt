@@ -9,8 +9,9 @@ use native.Mathlib.Omega.{arith}
 use native.Mathlib.Nat.{not-suc-le-zero, eq-or-lt_of_le, le_of_suc-le-suc, add-zero, zero-add}
 use Rattle.std.specs.List.{list_all, range_with_len}
 use lib.Dec.{T}
-use lib.ListN.{length, get_or, length-append, get_or-append, length-replicate, replicate}
+use lib.ListN.{length, set, get_or, length-append, get_or-append, length-replicate, replicate}
 use lib.Seq.{get_or_at, ext_get_or}
+use Rattle.std.proofs.lemmas.Grind.{common_steps}
 use Rattle.model.proofs.Logic.{and_both, and_l, and_r}
 use Rattle.lists.specs.Tab.{tab, zeros, every}
 
@@ -36,6 +37,10 @@ pub record Made (f : ℕ → ℕ) (t₀ t : List ℕ) (u : ℕ) : Type 0 where
   pub long : length t ≡ length t₀
   pub made : (k : ℕ) → k < u → get_or t k 0 ≡ f k
   pub left : (k : ℕ) → u ≤ k → get_or t k 0 ≡ get_or t₀ k 0
+
+-- a turn, for a loop whose word the check does not find
+pub made_turn : {f : ℕ → ℕ} {t₀ t : List ℕ} {u v : ℕ} → Made f t₀ t u → u < length t → v ≡ f u → Made f t₀ (set t u v) (u + 1)
+made_turn m h e = record { long = grind (arith, common_steps, m.long); made = λ k l. grind (arith, common_steps, m.made k); left = λ k l. grind (arith, common_steps, m.left k) }
 
 -- the loop's end
 pub made_all : {f : ℕ → ℕ} {n : ℕ} {t₀ t : List ℕ} {u : ℕ} → Made f t₀ t u → length t₀ ≡ n → n ≤ u → t ≡ tab f n
