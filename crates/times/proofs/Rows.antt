@@ -1,6 +1,8 @@
 -- Laws of tables in rows, the invariant of the loops that write them row by row, and what the loops over a row make. Assumes nothing.
-use Rattle.std.proofs.Common.{◌≡◌, ℕ, ◌+◌, ◌-◌, ◌*◌, ◌<◌, ◌≤◌, Bool, true, false, cond, eqb, List, ◌++◌, length, get_or, take, drop, set, sym, refl, ap, ◌∙◌, zero-le, le_of_eq, mul-le-mul_right, suc-mul, mul-le-mul, add-one, arith, length-drop, length-set, length-take-le, take_all, get_or-set_other, get_or-set_same, ext_get_or, drop_at, eqb-true, [], append_assoc}
+use Rattle.std.proofs.Common.{zero-mul, ◌≡◌, ℕ, ◌+◌, ◌-◌, ◌*◌, ◌<◌, ◌≤◌, Bool, true, false, cond, eqb, List, ◌++◌, length, get_or, take, drop, set, sym, refl, ap, ◌∙◌, zero-le, le_of_eq, mul-le-mul_right, suc-mul, mul-le-mul, add-one, arith, length-drop, length-set, length-take-le, take_all, get_or-set_other, get_or-set_same, ext_get_or, drop_at, eqb-true, [], append_assoc}
 use lib.Seq.{take_at, drop-drop}
+use lib.ListN.{drop_of_length-le}
+use mathlib.Core.List.{append-nil}
 use native.Mathlib.Nat.{sub-zero, add-sub_cancel_left}
 use borrow.Author.Tests.{eqb-false}
 use Rattle.lists.specs.Tab.{tab, splice}
@@ -41,6 +43,9 @@ pub rows_none : (n : ℕ) (f : ℕ → ℕ → ℕ) → rows n f 0 ≡ []
 unfolding rows
 rows_none n f = refl
 
+pub rowed_start : (n : ℕ) (f : ℕ → ℕ → ℕ) (t₀ : List ℕ) → Rowed n f t₀ t₀ 0
+rowed_start n f t₀ = rw (rows_none n f, zero-mul n) refl
+
 -- what the loop has not reached is as it was
 pub rowed_read : (n u : ℕ) (f : ℕ → ℕ → ℕ) (t₀ t : List ℕ) → Rowed n f t₀ t u → drop (u * n) t ≡ drop (u * n) t₀
 rowed_read n u f t₀ t e = rw e (drop_at (rows n f u) (drop (u * n) t₀) (u * n) (length-rows n f u))
@@ -51,6 +56,15 @@ pub rowed_turn : (n u : ℕ) (f : ℕ → ℕ → ℕ) (t₀ t row : List ℕ) �
 unfolding rows
 rowed_turn n u f t₀ t row e q =
     rw (rowed_read n u f t₀ t e, add-sub_cancel_left, add-one, suc-mul, drop-drop, q, e, take_at (rows n f u) (drop (u * n) t₀) (u * n) (length-rows n f u), append_assoc)
+
+-- the same, where it is put in its place
+pub rowed_put : (n u : ℕ) (f : ℕ → ℕ → ℕ) (t₀ t : List ℕ) → Rowed n f t₀ t u
+    → splice (u * n) n (tab (f u) n) t ≡ rows n f (u + 1) ++ drop ((u + 1) * n) t₀
+rowed_put n u f t₀ t e = sym (written-part (u * n) n t refl) ∙ rowed_turn n u f t₀ t (tab (f u) n) e refl
+
+-- the loop's end
+pub rowed_all : (n u : ℕ) (f : ℕ → ℕ → ℕ) (t₀ t : List ℕ) → Rowed n f t₀ t u → length t₀ ≡ n * n → u ≡ n → t ≡ rows n f n
+rowed_all n u f t₀ t e l q = e ∙ rw (q, drop_of_length-le t₀ {i = n * n} (omega arith)) (append-nil (rows n f n))
 
 -- two halves of rows, lent and written one after the other over all of xs
 pub halves : (n : ℕ) (f g : ℕ → ℕ → ℕ) (a b xs : List ℕ) → times_words n ≡ length xs → a ≡ rows n f n → b ≡ rows n g n
