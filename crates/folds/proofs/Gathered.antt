@@ -1,5 +1,5 @@
 -- Folds: the loops that make them, and that a row with its fold is the composition. Assumes nothing.
-use Rattle.std.proofs.Common.{◌≡◌, ℕ, zero, suc, ◌+◌, ◌-◌, ◌*◌, ◌^◌, ◌<◌, ◌≤◌, Bool, true, false, cond, not, ◌&&◌, ◌||◌, T, eqb, List, ◌++◌, length, get_or, take, drop, sym, refl, ap, ◌∙◌, subst, ap₂, ⊎_elim, zero-le, le_refl, lt_of_lt_of_le, le_of_suc-le-suc, mul-le-mul_right, suc-mul, eq-or-lt_of_le, arith, get_or-take, ext_get_or, pow_pos, eq-eqb, ne_eqb, eqb-true}
+use Rattle.std.proofs.Common.{◌≡◌, ℕ, zero, suc, ◌+◌, ◌-◌, ◌*◌, ◌^◌, ◌<◌, ◌≤◌, Bool, true, false, cond, not, ◌&&◌, ◌||◌, T, eqb, List, ◌++◌, length, get_or, take, drop, sym, refl, ap, ◌∙◌, subst, ap₂, ⊎_elim, le_refl, lt_of_lt_of_le, le_of_suc-le-suc, mul-le-mul_right, suc-mul, eq-or-lt_of_le, arith, get_or-take, ext_get_or, pow_pos, eq-eqb, ne_eqb, eqb-true}
 use borrow.Author.Tests.{eqb-false}
 use Rattle.model.proofs.Logic.{T→≡}
 use Rattle.model.proofs.Bits.{bit_high}
@@ -66,10 +66,6 @@ pub record Folded (late : Bool) (n : ℕ) (t : List ℕ) (set : ℕ) (row₀ out
   pub size : n ≡ length out
   pub small : rest < 2 ^ n
   pub made : (v : ℕ) → v < n → with_fold late n t rest out v ≡ with_fold late n t set row₀ v
-
-pub folded_start : {late : Bool} {n : ℕ} {t : List ℕ} {set : ℕ} {row₀ : List ℕ} → n ≡ length row₀ → set < 2 ^ n
-    → Folded late n t set row₀ row₀ set
-folded_start e h = record { size = e; small = h; made = λ v l. refl }
 
 module _ {late : Bool} {n : ℕ} {t : List ℕ} {set : ℕ} {row₀ out : List ℕ} {rest : ℕ} (m : Folded late n t set row₀ out rest) where
   pub folded_below : (w : ℕ) → T (bit rest w) → w < n
@@ -312,3 +308,5 @@ unfolding compose_times
 composed n s t a d e f = ap₂ (λ (x y : List ℕ). x ++ y) (e ∙ crossed_arrivals n s t) f
 
 pub ruleset both_halves = (composed, from_start)
+
+pub ruleset first_rows = (row_le, bit_below, without_lt, fold_empty)

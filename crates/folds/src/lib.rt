@@ -1,6 +1,7 @@
 // The composition of tables of times. A table is crossed with a later one row by row: what row u takes from the later table depends only on
 // which boards u reaches, so rows with the same set of boards share one fold over the later table. Latest departures are the same, with
 // rows and columns exchanged and the two parts too. The composition is written over the earlier part.
+// Rows of a table go by number: `chunks_exact` wants n above 0, and what it lends for writing is lost to the proof.
 #![tactic(auto)]
 
 ghost use Rattle.std.specs.Prelude.{◌≡◌, Bool, ◌+◌, ◌*◌, ◌^◌, ◌<◌, ◌≤◌, true, false, length, slice_index};
@@ -76,6 +77,7 @@ fn fold_set<B: Best>(out: &mut [u32], later: &[u32], n: usize, set: u32)
 }
 
 // The fold of one set: its first row, with the others.
+#[tactic(auto, using(crate::proofs::Gathered::first_rows))]
 fn fold_row<B: Best>(out: &mut [u32], later: &[u32], n: usize, set: u32)
     requires { (n ≤ 32) × ((set < 2 ^ n) × ((n ≡ length out.old) × (n * n ≤ length later.now))) }
     ensures { out.new ≡ tab (gather B.late n later.now set n) n }

@@ -1,14 +1,12 @@
 -- Laws of tables in rows, the invariant of the loops that write them row by row, and what the loops over a row make. Assumes nothing.
-use Rattle.std.proofs.Common.{zero-mul, ◌≡◌, ℕ, ◌+◌, ◌-◌, ◌*◌, ◌<◌, ◌≤◌, Bool, true, false, cond, eqb, List, ◌++◌, length, get_or, take, drop, set, sym, refl, ap, ◌∙◌, zero-le, le_of_eq, mul-le-mul_right, suc-mul, mul-le-mul, add-one, arith, length-drop, length-set, length-take-le, take_all, get_or-set_other, get_or-set_same, ext_get_or, drop_at, eqb-true, [], append_assoc}
+use Rattle.std.proofs.Common.{zero-mul, ◌≡◌, ℕ, ◌+◌, ◌-◌, ◌*◌, ◌<◌, ◌≤◌, Bool, true, false, cond, eqb, List, ◌++◌, length, get_or, take, drop, set, sym, refl, ◌∙◌, le_of_eq, mul-le-mul_right, suc-mul, mul-le-mul, add-one, arith, length-drop, length-set, length-take-le, take_all, get_or-set_other, get_or-set_same, ext_get_or, drop_at, eqb-true, [], append_assoc}
 use lib.Seq.{take_at, drop-drop}
-use lib.ListN.{drop_of_length-le}
-use mathlib.Core.List.{append-nil}
-use native.Mathlib.Nat.{sub-zero, add-sub_cancel_left}
+use native.Mathlib.Nat.{add-sub_cancel_left}
 use borrow.Author.Tests.{eqb-false}
 use Rattle.lists.specs.Tab.{tab, splice}
-use Rattle.lists.proofs.Splice.{splice-more, splice_whole, written-part, written_first}
+use Rattle.lists.proofs.Splice.{written-part}
 use Rattle.lists.proofs.Tab.{length-tab, get_or-tab}
-use Rattle.times.specs.Times.{rows, times_words, apart}
+use Rattle.times.specs.Times.{rows, apart}
 use Rattle.times.proofs.Cells.{length-rows}
 
 -- ---- places
@@ -61,24 +59,6 @@ rowed_turn n u f t₀ t row e q =
 pub rowed_put : (n u : ℕ) (f : ℕ → ℕ → ℕ) (t₀ t : List ℕ) → Rowed n f t₀ t u
     → splice (u * n) n (tab (f u) n) t ≡ rows n f (u + 1) ++ drop ((u + 1) * n) t₀
 rowed_put n u f t₀ t e = sym (written-part (u * n) n t refl) ∙ rowed_turn n u f t₀ t (tab (f u) n) e refl
-
--- the loop's end
-pub rowed_all : (n u : ℕ) (f : ℕ → ℕ → ℕ) (t₀ t : List ℕ) → Rowed n f t₀ t u → length t₀ ≡ n * n → u ≡ n → t ≡ rows n f n
-rowed_all n u f t₀ t e l q = e ∙ rw (q, drop_of_length-le t₀ {i = n * n} (omega arith)) (append-nil (rows n f n))
-
--- two halves of rows, lent and written one after the other over all of xs
-pub halves : (n : ℕ) (f g : ℕ → ℕ → ℕ) (a b xs : List ℕ) → times_words n ≡ length xs → a ≡ rows n f n → b ≡ rows n g n
-    → take (n * n) (a ++ drop (n * n - 0) xs) ++ (b ++ drop (n * n + n * n - n * n) (drop (n * n) (a ++ drop (n * n - 0) xs))) ≡ rows n f n ++ rows n g n
-halves n f g a b xs e p q =
-    let m = n * n in
-    written-part m m _ q
-    ∙ ap (splice m m (rows n g n)) (written_first m xs p)
-    ∙ splice-more 0 m (rows n f n) xs (length-rows n f n) zero-le m m (rows n g n) (omega arith)
-    ∙ splice_whole (m + m) (rows n f n ++ rows n g n) xs (omega arith)
-
--- the second half, as it is lent when the first was written
-pub half_left : (m : ℕ) (a xs : List ℕ) → m + m ≡ length xs → m ≡ length a → take (m + m - m) (drop m (a ++ drop (m - 0) xs)) ≡ drop m xs
-half_left m a xs e l = rw (sub-zero, add-sub_cancel_left, drop_at a _ m (sym l)) (take_all m (drop m xs) (omega (arith, length-drop m xs)))
 
 -- ---- one row
 

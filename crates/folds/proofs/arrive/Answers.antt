@@ -1,5 +1,5 @@
 -- `folds::arrive` meets its contract. The sets, the folds, and the rows with their folds (`crossed_rows`). Assumes nothing.
-use Rattle.std.proofs.Common.{false, ◌∙◌, rules, arith}
+use Rattle.std.proofs.Common.{false, ◌∙◌, rules}
 use Rattle.times.specs.Times.{cell}
 use Rattle.folds.proofs.Gathered.{crossed_rows, small_sets}
 use Rattle.folds.proofs.arrive.Goals as goal

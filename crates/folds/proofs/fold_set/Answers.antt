@@ -1,5 +1,5 @@
 -- `folds::fold_set` meets its contract. The invariant is `Folded`. Assumes nothing.
-use Rattle.std.proofs.Common.{arith, sym, ◌∙◌}
+use Rattle.std.proofs.Common.{arith}
 use Rattle.times.proofs.Rows.{row_le}
 use Rattle.folds.proofs.Gathered.{folded_below, folded_less, folded_next, folded_all}
 use Rattle.folds.proofs.fold_set.Goals as goal
