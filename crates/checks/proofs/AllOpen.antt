@@ -3,18 +3,22 @@ use mathlib.Core.Path.{◌≡◌, refl, sym, ap, ◌∙◌, subst}
 use mathlib.Core.Logic.{⊎_elim}
 use mathlib.Core.Bool.{◌||◌, ◌&&◌, not}
 use mathlib.Core.List.{List}
-use Prim.Native.Nat.{ℕ, ◌-◌, ◌^◌, ◌≤◌, ◌<◌}
+use Prim.Native.Nat.{ℕ, ◌+◌, ◌-◌, ◌^◌, ◌≤◌, ◌<◌}
 use native.Mathlib.Nat.{lt_of_lt_of_le}
 use native.Mathlib.Omega.{arith}
 use lib.Bits.{bit_and, bit_or, or_lt, or_add_and, and_le_l, and_le_r}
 use lib.Dec.{T, eqb, eqb→eq, leb, leb→le, le→leb}
-use lib.ListN.{length, get_or}
+use lib.ListN.{length, take, get_or}
+use lib.Seq.{get_or-take, length-take-le}
+use Rattle.std.proofs.Common.{Fits, w32}
+use Rattle.lists.specs.Tab.{every}
+use Rattle.links.proofs.Gather.{bad_turn}
 use lib.Pow.{pow_pos, lt_of_le_ones}
 use Rattle.model.specs.Recording.{bit, link}
 use Rattle.model.proofs.Logic.{tr, bool_ext, or_l, or_r, or_cases, and_both, and_l, and_r, not_in, not_out, eqb_ne, ne_eqb, eq_refl}
 use Rattle.model.proofs.Bits.{bit-or, bits_ext}
 use Rattle.model.proofs.Ones.{bit_low}
-use Rattle.lists.proofs.Tab.{length-tab, get_or-tab, every_ext}
+use Rattle.lists.proofs.Tab.{length-tab, get_or-tab, every_none, every_ext}
 use Rattle.links.specs.Tables.{without}
 use Rattle.links.proofs.Bits.{bit-without, without_lt, without_32}
 use Rattle.checks.specs.Checks.{allowed, clean_row, clean, listed_row, listed, all_open}
@@ -74,6 +78,15 @@ clean_word n w u n32 h hx =
     let e = get_or-tab (without (allowed n)) n u h in
     subst (λ (y : ℕ). eqb (bit_and (get_or w u 0) (2 ^ 32 - 1 - y)) 0 ≡ clean_row n w u) e
     (listed_word (all_open n) w u hx (subst (λ (y : ℕ). y < 2 ^ 32) (sym e) (without_32 (allowed n) u)) ∙ row_clean n u n32 h w)
+
+-- a turn of the loop that gathers the forbidden bits
+pub clean_turn : (n : ℕ) (w : List ℕ) (u bad : ℕ) → n ≤ 32 → u < n → eqb bad 0 ≡ every (clean_row n w) u → Fits w32 (get_or w u 0)
+    → eqb (bit_or bad (bit_and (get_or (take n w) u 0) (2 ^ 32 - 1 - without (allowed n) u))) 0 ≡ every (clean_row n w) (u + 1)
+clean_turn n w u bad n32 h e a =
+    rw (get_or-take n w u 0)
+    (bad_turn (clean_row n w) u bad (bit_and (get_or w u 0) (2 ^ 32 - 1 - without (allowed n) u)) e (clean_word n w u n32 h (omega arith)))
+
+pub ruleset clean_turns = (every_none, clean_turn, length-take-le)
 
 listed-clean : (n : ℕ) (w : List ℕ) → n ≤ 32 → listed n (all_open n) w ≡ clean n w
 unfolding listed clean

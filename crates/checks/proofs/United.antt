@@ -1,27 +1,29 @@
 -- The union of the picks has a bit exactly where some pick has it, so that it is listed exactly when all of them are. Assumes nothing.
-use mathlib.Core.Path.{◌≡◌, refl, sym, ap, ap₂, ◌∙◌}
+use mathlib.Core.Path.{◌≡◌, sym, ap, ◌∙◌}
 use mathlib.Core.Logic.{⊎_elim}
 use mathlib.Core.Bool.{Bool, true, ◌&&◌}
-use mathlib.Core.List.{List, ◌++◌}
-use Prim.Native.Nat.{ℕ, zero, suc, ◌-◌, ◌≤◌, ◌<◌}
-use native.Mathlib.Nat.{sub-zero, zero-add}
+use mathlib.Core.List.{List}
+use Prim.Native.Nat.{ℕ, zero, suc, ◌≤◌, ◌<◌, zero-le}
+use native.Mathlib.Nat.{zero-add}
 use native.Mathlib.Omega.{arith}
 use lib.Bits.{bit_or, or_zero_l}
 use lib.Dec.{eqb, eqb→eq}
-use lib.ListN.{length, get_or, take, drop, length-append, get_or-replicate}
+use lib.ListN.{get_or, take, get_or-replicate}
 use Rattle.model.specs.Recording.{bit}
 use Rattle.model.proofs.Logic.{tr, T→≡, bool_ext, or_l, or_r, or_cases, and_both, and_l, and_r, eq_refl}
 use Rattle.model.proofs.Bits.{bit-or}
-use Rattle.lists.specs.Tab.{zeros, every}
-use Rattle.lists.proofs.Splice.{written_first, lent_first}
-use Rattle.lists.proofs.Zeros.{lent}
+use Rattle.lists.specs.Tab.{zeros, every, splice}
+use Rattle.lists.proofs.Splice.{read_inside}
+use Rattle.lists.proofs.Zeros.{zeros_inside}
 use Rattle.lists.proofs.Tab.{get_or-tab, length-zeros, every_in, every_out}
 use Rattle.links.specs.Tables.{union, either_row}
 use Rattle.links.specs.Picks.{lent_pick, united_picks}
 use Rattle.links.proofs.Picks.{length_united}
-use Rattle.checks.specs.Checks.{listed_row, listed}
-use Rattle.checks.specs.Lent.{listed_pick, listed_picks}
+use Rattle.checks.specs.Checks.{listed_row, listed, all_open}
+use Rattle.checks.specs.Lent.{listed_pick, listed_picks, clean_picks}
+use Rattle.std.proofs.lemmas.Grind.{common_steps}
 use Rattle.checks.proofs.Masks.{or_in, or_out}
+use Rattle.checks.proofs.AllOpen.{listed-clean_picks, length_open}
 
 -- ---- one row
 
@@ -73,24 +75,17 @@ listed_united n l w (suc m) =
     ap (λ (k : ℕ). listed n l (union n (united_picks n (zeros n) w 0 m) (lent_pick n w k))) (zero-add m)
     ∙ listed-union n l (united_picks n (zeros n) w 0 m) (lent_pick n w m) ∙ ap (λ (b : Bool). b && listed n l (lent_pick n w m)) (listed_united n l w m)
 
--- ---- the table they are united onto
+-- ---- the tables that code lends
 
--- x are 32 zeros, of which code lends the first n; y is the union that is written over them
-module _ (n m : ℕ) (w x y : List ℕ) (n32 : n ≤ 32) (z : x ≡ zeros 32) (e : y ≡ united_picks n (take (n - 0) x) w 0 (m - 0)) where
-  union_is : y ≡ united_picks n (zeros n) w 0 m
-  union_is = e ∙ ap₂ (λ (t : List ℕ) (k : ℕ). united_picks n t w 0 k) (lent n 32 x z n32) (sub-zero m)
+-- the first n words of the pick with all links open, and zeros
+pub lent_open : (n : ℕ) (x : List ℕ) → x ≡ splice 0 n (all_open n) (zeros 32) → take n x ≡ all_open n
+lent_open n x e = rw e (read_inside 0 n (all_open n) (zeros 32) (length_open n) zero-le)
 
-  union_long : length y ≡ n
-  union_long = ap length union_is ∙ length_united n (zeros n) w 0 m (length-zeros n)
+pub lent_zeros : (n : ℕ) → n ≤ 32 → take n (zeros 32) ≡ zeros n
+lent_zeros n h = zeros_inside 0 n 32 (omega arith)
 
-  pub union_room : n ≤ length (y ++ drop (n - 0) x)
-  union_room = omega (arith, union_long, length-append y (drop (n - 0) x))
+-- THEOREM. So many picks are checked at once: their union against all links.
+pub union_clean : (n : ℕ) (w : List ℕ) (m : ℕ) → n ≤ 32 → listed n (all_open n) (united_picks n (zeros n) w 0 m) ≡ clean_picks n w m
+union_clean n w m h = listed_united n (all_open n) w m ∙ listed-clean_picks n w m h
 
-  union-again : take (n - 0) (y ++ drop (n - 0) x) ≡ y
-  union-again = lent_first x union_long (written_first n x refl)
-
-  pub union_lent_room : n ≤ length (take (n - 0) (y ++ drop (n - 0) x))
-  union_lent_room = omega (arith, ap length union-again, union_long)
-
-  pub union_lent : take (n - 0) (y ++ drop (n - 0) x) ≡ united_picks n (zeros n) w 0 m
-  union_lent = union-again ∙ union_is
+pub ruleset unions = (common_steps, lent_open, lent_zeros, union_clean, length_united, length-zeros, length_open)

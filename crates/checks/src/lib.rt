@@ -8,7 +8,8 @@ ghost use Rattle.checks.specs.Lent.{clean_picks};
 
 use model::Board;
 
-// The allowed bits for each number of boards n, 0 to 32: those below n. Row a of n boards may hold them all but bit a.
+// The allowed bits for each number of boards n, 0 to 32: those below n. Row a of n boards may hold them all but bit a. A table of constants is a
+// rule of the project; elsewhere they are worked out (`links::low_bits`).
 const ALLOWED: [u32; 33] = [
     0, 1, 3, 7, 15, 31, 63, 127, 255, 511, 1023, 2047, 4095, 8191, 16383, 32767, 65535, 131071,
     262143, 524287, 1048575, 2097151, 4194303, 8388607, 16777215, 33554431, 67108863, 134217727,
@@ -25,26 +26,28 @@ fn allowed_bits(n: usize) -> u32
 
 // Whether n words have no forbidden bit, of board n or above or their own: none outside the row of the pick with all links open. Such bits are
 // gathered, so that the loop has no branch.
+#[tactic(auto, using(crate::proofs::AllOpen::clean_turns), unfolding(crate::specs::Checks::clean))]
 pub fn is_clean(words: &[u32], n: usize) -> bool
     requires { (n ≤ 32) × (n ≤ length words.now) }
     ensures { result ≡ clean n words.now }
 {
     let bits = allowed_bits(n);
     let mut bad = 0u32;
-    for u in 0..n {
-        bad = bad | (words[u] & !links::cleared(bits, Board(u)));
+    for (u, row) in words[..n].iter().enumerate() {
+        bad |= *row & !links::cleared(bits, Board(u));
     }
     bad == 0
 }
 
 // Whether every link of a pick is in the footprint. The others are gathered.
+#[tactic(auto, using(crate::proofs::Masks::listed_turns), unfolding(crate::specs::Checks::listed))]
 pub fn is_listed(footprint: &[u32], words: &[u32], n: usize) -> bool
     requires { (n ≤ length footprint.now) × (n ≤ length words.now) }
     ensures { result ≡ listed n footprint.now words.now }
 {
     let mut bad = 0u32;
-    for u in 0..n {
-        bad = bad | (words[u] & !footprint[u]);
+    for (u, row) in words[..n].iter().enumerate() {
+        bad |= *row & !footprint[u];
     }
     bad == 0
 }
@@ -52,24 +55,26 @@ pub fn is_listed(footprint: &[u32], words: &[u32], n: usize) -> bool
 // ---- many picks
 
 // The pick with all links open, and zeros up to 32: each row has the allowed bits but for its own.
+#[tactic(auto, using(std::proofs::lemmas::Grind::common_steps), unfolding(crate::specs::Checks::all_open, lists::specs::Tab::splice))]
 fn all_open(n: usize) -> [u32; 32]
     requires { n ≤ 32 }
     ensures { result ≡ splice 0 n (all_open n) (zeros 32) }
 {
     let row = allowed_bits(n);
-    let mut rows = lists::no_words();
-    links::fill_rows(&mut rows[0..n], row, n);
+    let mut rows = lists::zeroed();
+    links::fill_rows(&mut rows[..n], row, n);
     rows
 }
 
 // Whether none of the first m picks, n words each, has a forbidden bit. Their union has a bit exactly where some pick has it, so it is asked of
 // the union, once.
+#[tactic(auto, using(crate::proofs::United::unions))]
 pub fn are_clean(words: &[u32], n: usize, m: usize) -> bool
     requires { (n ≤ 32) × ((m ≤ 4096) × (m * n ≤ length words.now)) }
     ensures { result ≡ clean_picks n words.now m }
 {
     let rows = all_open(n);
-    let mut any = lists::no_words();
-    links::unite_picks(&mut any[0..n], words, n, 0, m);
-    is_listed(&rows[0..n], &any[0..n], n)
+    let mut any = lists::zeroed::<32>();
+    links::unite_picks(&mut any[..n], words, n, 0, m);
+    is_listed(&rows[..n], &any[..n], n)
 }

@@ -1,5 +1,5 @@
 -- The better of two times: the words of it, and its laws. Assumes nothing.
-use Rattle.std.proofs.Common.{◌≡◌, ℕ, zero, suc, ◌+◌, ◌%◌, ◌^◌, ◌<◌, ◌≤◌, min, max, Bool, true, false, cond, eqb, leb, sym, refl, ◌∙◌, arith, eqb-true, le-leb, leb-false, leb-true}
+use Rattle.std.proofs.Common.{◌≡◌, ℕ, zero, suc, ◌+◌, ◌-◌, ◌%◌, ◌^◌, ◌<◌, ◌≤◌, min, max, Bool, true, false, cond, eqb, leb, sym, refl, ◌∙◌, arith, eqb-true, le-leb, leb-false, leb-true}
 use lib.Dec.{eqb-suc-zero, leb-suc-zero}
 use borrow.Author.Tests.{eqb-false, lt-leb}
 use Rattle.times.specs.Times.{sooner, later}
@@ -7,21 +7,25 @@ use Rattle.folds.specs.Folds.{better}
 
 -- ---- the earlier time, by words less one
 
-module _ (a b x y : ℕ) (ha : a < 2 ^ 32) (hb : b < 2 ^ 32) (ea : (a + 1) % 2 ^ 32 ≡ x) (eb : (b + 1) % 2 ^ 32 ≡ y) where
-  pub sooner_first : a ≤ b → x ≡ sooner x y
-  unfolding sooner
-  sooner_first h = by (eqb x 0) refl (eqb y 0) refl
+-- x less one, as a word: where x is 0 it is the greatest one
+abbrev less_one : ℕ → ℕ
+less_one x = (x + (2 ^ 32 - 1)) % 2 ^ 32
+
+module _ (x y : ℕ) (hx : x < 2 ^ 32) (hy : y < 2 ^ 32) where
+  pub earlier_first : less_one x ≤ less_one y → better false x y ≡ x
+  unfolding better sooner
+  earlier_first h = by (eqb x 0) refl (eqb y 0) refl
     where
-      by : (p : Bool) → eqb x 0 ≡ p → (q : Bool) → eqb y 0 ≡ q → x ≡ cond p y (cond q x (cond (leb x y) x y))
+      by : (p : Bool) → eqb x 0 ≡ p → (q : Bool) → eqb y 0 ≡ q → cond p y (cond q x (cond (leb x y) x y)) ≡ x
       by true e q f = let z = eqb-true x 0 e in omega arith
       by false e true f = refl
       by false e false f = let k = eqb-false x 0 e in let l = eqb-false y 0 f in simp (le-leb x y (omega arith))
 
-  pub sooner_second : b < a → y ≡ sooner x y
-  unfolding sooner
-  sooner_second h = by (eqb x 0) refl (eqb y 0) refl
+  pub earlier_second : less_one y < less_one x → better false x y ≡ y
+  unfolding better sooner
+  earlier_second h = by (eqb x 0) refl (eqb y 0) refl
     where
-      by : (p : Bool) → eqb x 0 ≡ p → (q : Bool) → eqb y 0 ≡ q → y ≡ cond p y (cond q x (cond (leb x y) x y))
+      by : (p : Bool) → eqb x 0 ≡ p → (q : Bool) → eqb y 0 ≡ q → cond p y (cond q x (cond (leb x y) x y)) ≡ y
       by true e q f = refl
       by false e true f = let z = eqb-true y 0 f in absurd (omega arith)
       by false e false f = let k = eqb-false x 0 e in let l = eqb-false y 0 f in simp (lt-leb x y (omega arith))
@@ -94,3 +98,10 @@ pub better_self : (late : Bool) (x : ℕ) → better late x x ≡ x
 unfolding better
 better_self true x = later-max x x ∙ omega arith
 better_self false x = sooner_self x
+
+pub better_late : (x y : ℕ) → better true x y ≡ max x y
+unfolding better
+better_late x y = later-max x y
+
+-- what the two choices stand on
+pub ruleset bests = (earlier_first, earlier_second, better_late)

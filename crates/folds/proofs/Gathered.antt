@@ -1,6 +1,5 @@
 -- Folds: the loops that make them, and that a row with its fold is the composition. Assumes nothing.
-use Rattle.std.proofs.Common.{◌≡◌, ℕ, zero, suc, ◌+◌, ◌-◌, ◌*◌, ◌^◌, ◌<◌, ◌≤◌, Bool, true, false, cond, not, ◌&&◌, ◌||◌, T, eqb, List, ◌++◌, length, get_or, take, drop, sym, refl, ap, ◌∙◌, subst, ap₂, ⊎_elim, zero-le, le_refl, lt_of_lt_of_le, le_of_suc-le-suc, mul-le-mul_right, suc-mul, eq-or-lt_of_le, arith, get_or-take, ext_get_or, pow_pos, eq-eqb, ne_eqb, eqb-true}
-use native.Mathlib.Nat.{sub-zero}
+use Rattle.std.proofs.Common.{◌≡◌, ℕ, zero, suc, ◌+◌, ◌-◌, ◌*◌, ◌^◌, ◌<◌, ◌≤◌, Bool, true, false, cond, not, ◌&&◌, ◌||◌, T, eqb, List, ◌++◌, length, get_or, take, drop, sym, refl, ap, ◌∙◌, subst, ap₂, ⊎_elim, le_refl, lt_of_lt_of_le, le_of_suc-le-suc, mul-le-mul_right, suc-mul, eq-or-lt_of_le, arith, get_or-take, ext_get_or, pow_pos, eq-eqb, ne_eqb, eqb-true}
 use borrow.Author.Tests.{eqb-false}
 use Rattle.model.proofs.Logic.{T→≡}
 use Rattle.model.proofs.Bits.{bit_high}
@@ -8,10 +7,10 @@ use Rattle.links.specs.Tables.{without}
 use Rattle.links.proofs.Bits.{without_lt, bit_left, bit_out, bit_below, without_less}
 use Rattle.model.specs.Recording.{bit}
 use Rattle.lists.specs.Tab.{tab, zeros, kept}
-use Rattle.lists.proofs.Splice.{word_inside}
+use lib.ListN.{get_or-append}
 use Rattle.lists.proofs.Tab.{length-tab, get_or-tab, tab_ext, tab_zero}
-use Rattle.times.specs.Times.{cell, rows, sooner, later, after, apart, arrive_by, arrival, arrivals, depart_by, departure, departures}
-use Rattle.times.proofs.Rows.{cell_lt, row_le, part_length, Rowed}
+use Rattle.times.specs.Times.{cell, rows, sooner, later, after, apart, arrive_by, arrival, arrivals, depart_by, departure, departures, compose_times}
+use Rattle.times.proofs.Rows.{cell_lt, row_le, part_length, from_start, Rowed}
 use Rattle.times.proofs.Cells.{length-rows, cell-rows}
 use Rattle.sets.specs.Marks.{some_of, set_of}
 use Rattle.folds.specs.Folds.{each, better, cross_by, crossed, gather, with_fold, fold_of, joined_row, transposed, column_set, Small, Shared}
@@ -68,10 +67,6 @@ pub record Folded (late : Bool) (n : ℕ) (t : List ℕ) (set : ℕ) (row₀ out
   pub small : rest < 2 ^ n
   pub made : (v : ℕ) → v < n → with_fold late n t rest out v ≡ with_fold late n t set row₀ v
 
-pub folded_start : {late : Bool} {n : ℕ} {t : List ℕ} {set : ℕ} {row₀ : List ℕ} → n ≡ length row₀ → set < 2 ^ n
-    → Folded late n t set row₀ row₀ set
-folded_start e h = record { size = e; small = h; made = λ v l. refl }
-
 module _ {late : Bool} {n : ℕ} {t : List ℕ} {set : ℕ} {row₀ out : List ℕ} {rest : ℕ} (m : Folded late n t set row₀ out rest) where
   pub folded_below : (w : ℕ) → T (bit rest w) → w < n
   folded_below w b = bit_below rest m.small b
@@ -122,19 +117,20 @@ same_fold late n t sets u folds k s h e =
     lent_row n k folds _ (omega (arith, row_le n b, s.room)) (λ v l. s.made k v h l ∙ ap (λ (x : ℕ). gather late n t x n v) e)
 
 -- the folds below u are made
-pub shared : {late : Bool} {n : ℕ} {t sets folds₀ folds : List ℕ} {u : ℕ} → n ≤ 32 → n ≤ length sets → n * n ≤ length t
-    → Small n sets → u < n
-    → Rowed n (fold_of late n t sets) folds₀ folds u → Shared late n t sets u folds
-shared {late} {n} {t} {sets} {folds₀} {folds} {u} few words table small below m = record {
+pub shared : (late : Bool) (n : ℕ) (t sets folds₀ folds : List ℕ) (u : ℕ) → n ≤ 32 → n ≤ length sets → n * n ≤ length t → n * n ≤ length folds
+    → Small n sets → u < n → Rowed n (fold_of late n t sets) folds₀ folds u → Shared late n t sets u folds
+shared late n t sets folds₀ folds u few words table room small below m = record {
   few = few;
   below = below;
   words = words;
   table = table;
-  room = omega (arith, m.long);
+  room = room;
   small = small.small u below;
-  made = λ k v h l. rw m.made
-      (word_inside 0 (u * n) (rows n (fold_of late n t sets) u) folds₀ (length-rows n (fold_of late n t sets) u) zero-le (k * n + v) (k * n + v)
-      (omega arith) (omega (arith, mul-le-mul_right n h, suc-mul k n)) ∙ cell-rows n (fold_of late n t sets) u k v h l);
+  made = λ k v h l.
+      rw m
+      (get_or-append (rows n (fold_of late n t sets) u) (drop (u * n) folds₀) 0 (k * n + v)
+      (omega (arith, length-rows n (fold_of late n t sets) u, mul-le-mul_right n h, suc-mul k n))
+      ∙ cell-rows n (fold_of late n t sets) u k v h l);
 }
 
 -- ---- a row with its fold is the composition
@@ -235,17 +231,17 @@ crossed_rows late n s t sets folds e f = rows_ext n _ _ n row
 -- ---- the two halves of a table
 
 -- a word of the first half, as it is lent
-first_cell : (n : ℕ) (s : List ℕ) (u v : ℕ) → u < n → v < n → cell n (take (n * n - 0) s) u v ≡ cell n s u v
-first_cell n s u v hu hv = rw sub-zero (get_or-take (n * n) s (u * n + v) 0 (cell_lt n hu hv))
+first_cell : (n : ℕ) (s : List ℕ) (u v : ℕ) → u < n → v < n → cell n (take (n * n) s) u v ≡ cell n s u v
+first_cell n s u v hu hv = get_or-take (n * n) s (u * n + v) 0 (cell_lt n hu hv)
 
 cross_arrive : (n : ℕ) (s t : List ℕ) (k u v : ℕ) → k ≤ n → u < n → v < n
-    → cross_by false n (take (n * n - 0) s) t k u v ≡ arrive_by n s t k u v
+    → cross_by false n (take (n * n) s) t k u v ≡ arrive_by n s t k u v
 unfolding cross_by arrive_by better
 cross_arrive n s t zero u v h hu hv = ap (λ (x : ℕ). sooner x (cell n t u v)) (first_cell n s u v hu hv)
 cross_arrive n s t (suc k) u v h hu hv =
     ap₂ (λ (x y : ℕ). sooner x (after y (cell n t k v))) (cross_arrive n s t k u v (omega arith) hu hv) (first_cell n s u k hu h)
 
-pub crossed_arrivals : (n : ℕ) (s t : List ℕ) → rows n (crossed false n (take (n * n - 0) s) t) n ≡ arrivals n s t
+pub crossed_arrivals : (n : ℕ) (s t : List ℕ) → rows n (crossed false n (take (n * n) s) t) n ≡ arrivals n s t
 unfolding crossed arrivals arrival
 crossed_arrivals n s t = rows_ext n _ _ n (λ u v hu hv. ap (apart u v) (cross_arrive n s t n u v (le_refl n) hu hv))
 
@@ -303,3 +299,14 @@ crossed_departures n s t far sets folds back f q g k =
 pub small_sets : (n : ℕ) (f : ℕ → ℕ → ℕ) (t sets : List ℕ) → sets ≡ tab (λ u. set_of (f u) n (some_of n t) u) n → Small n sets
 small_sets n f t sets e =
     record { small = λ u h. subst (λ (x : ℕ). x < 2 ^ n) (sym (rw e (get_or-tab (λ i. set_of (f i) n (some_of n t) i) n u h))) (set_lt (f u) n t u) }
+
+-- ---- both halves
+
+pub composed : (n : ℕ) (s t a d : List ℕ) → a ≡ rows n (crossed false n (take (n * n) s) t) n → d ≡ departures n (drop (n * n) s) (drop (n * n) t)
+    → a ++ d ≡ compose_times n s t
+unfolding compose_times
+composed n s t a d e f = ap₂ (λ (x y : List ℕ). x ++ y) (e ∙ crossed_arrivals n s t) f
+
+pub ruleset both_halves = (composed, from_start)
+
+pub ruleset first_rows = (row_le, bit_below, without_lt, fold_empty)

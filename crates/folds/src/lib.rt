@@ -1,9 +1,10 @@
 // The composition of tables of times. A table is crossed with a later one row by row: what row u takes from the later table depends only on
 // which boards u reaches, so rows with the same set of boards share one fold over the later table. Latest departures are the same, with
 // rows and columns exchanged and the two parts too. The composition is written over the earlier part.
+// Rows of a table go by number: `chunks_exact` wants n above 0, and what it lends for writing is lost to the proof.
 #![tactic(auto)]
 
-ghost use Rattle.std.specs.Prelude.{◌≡◌, ◌+◌, ◌*◌, ◌^◌, ◌<◌, ◌≤◌, true, false, length, slice_index};
+ghost use Rattle.std.specs.Prelude.{◌≡◌, Bool, ◌+◌, ◌*◌, ◌^◌, ◌<◌, ◌≤◌, true, false, length, slice_index};
 ghost use Rattle.lists.specs.Tab.{tab, zeros, splice};
 ghost use Rattle.times.specs.Times.{cell, rows, times_words, sooner, later, departures, compose_times};
 ghost use Rattle.folds.specs.Folds.{each, better, row_at, gather, with_fold, fold_of, joined_row, transposed, column_set, crossed, Small, Shared};
@@ -12,137 +13,141 @@ use model::Board;
 
 // ---- a row taken in
 
-// The earlier of two times. Less one, where 0 becomes the largest word, the earlier is the smaller: one comparison and a select.
-fn the_sooner(x: u32, y: u32) -> u32
-    ensures { result ≡ sooner x y }
-{
-    if std::num::wrapping_sub_u32(x, 1) <= std::num::wrapping_sub_u32(y, 1) {
-        return x;
+// Which of two times is the better one: for departures the later one, for arrivals the earlier one.
+trait Best {
+    ghost late: { Bool };
+
+    fn best(x: u32, y: u32) -> u32
+        ensures { result ≡ better late x y };
+}
+
+struct Earliest;
+
+impl Best for Earliest {
+    ghost late = { false };
+
+    // Less one, where 0 becomes the largest word, the earlier is the smaller: one comparison and a select.
+    #[tactic(auto, using(crate::proofs::Better::bests))]
+    fn best(x: u32, y: u32) -> u32 {
+        if x.wrapping_sub(1) <= y.wrapping_sub(1) {
+            x
+        } else {
+            y
+        }
     }
-    y
 }
 
-// The later of two times.
-fn the_later(x: u32, y: u32) -> u32
-    ensures { result ≡ later x y }
-{
-    if x <= y { y } else { x }
-}
+struct Latest;
 
-// The better of two times: the later one for departures, the earlier one for arrivals.
-fn the_better(x: u32, y: u32, late: bool) -> u32
-    ensures { result ≡ better late x y }
-{
-    if late {
-        return the_later(x, y);
+impl Best for Latest {
+    ghost late = { true };
+
+    #[tactic(auto, using(crate::proofs::Better::bests))]
+    fn best(x: u32, y: u32) -> u32 {
+        x.max(y)
     }
-    the_sooner(x, y)
 }
 
-// The words of row join those of out. The compiler asks for the direction once, before the loop.
-fn fold(out: &mut [u32], row: &[u32], n: usize, late: bool)
+// The words of row join those of out.
+#[tactic(auto, using(lists::proofs::Tab::made_all))]
+fn fold<B: Best>(out: &mut [u32], row: &[u32], n: usize)
     requires { (n ≡ length out.old) × (n ≡ length row.now) }
-    ensures { out.new ≡ tab (each (better late) out.old row.now) n }
+    ensures { out.new ≡ tab (each (better B.late) out.old row.now) n }
 {
-    for v in 0..n {
-        out[v] = the_better(out[v], row[v], late);
+    for (v, x) in out.iter_mut().enumerate() {
+        *x = B::best(*x, row[v]);
     }
 }
 
 // ---- folds
 
 // Takes in the rows of the boards of a set.
-fn fold_set(out: &mut [u32], later: &[u32], n: usize, set: u32, late: bool)
+fn fold_set<B: Best>(out: &mut [u32], later: &[u32], n: usize, set: u32)
     requires { (n ≤ 32) × ((set < 2 ^ n) × ((n ≡ length out.old) × (n * n ≤ length later.now))) }
-    ensures { out.new ≡ tab (with_fold late n later.now set out.old) n }
+    ensures { out.new ≡ tab (with_fold B.late n later.now set out.old) n }
 {
     let mut rest = set;
+    // An iterator over the boards of a set costs 1 per cent more instructions.
     while rest != 0 {
         let w = links::board_in(rest);
         let at = w * n;
-        fold(out, &later[at..at + n], n, late);
+        fold::<B>(out, &later[at..at + n], n);
         rest = links::cleared(rest, Board(w));
     }
 }
 
 // The fold of one set: its first row, with the others.
-fn fold_row(out: &mut [u32], later: &[u32], n: usize, set: u32, late: bool)
+#[tactic(auto, using(crate::proofs::Gathered::first_rows))]
+fn fold_row<B: Best>(out: &mut [u32], later: &[u32], n: usize, set: u32)
     requires { (n ≤ 32) × ((set < 2 ^ n) × ((n ≡ length out.old) × (n * n ≤ length later.now))) }
-    ensures { out.new ≡ tab (gather late n later.now set n) n }
+    ensures { out.new ≡ tab (gather B.late n later.now set n) n }
 {
     if set == 0 {
         lists::zero_over(out, n);
-        return;
+    } else {
+        let w = links::board_in(set);
+        let at = w * n;
+        out.copy_from_slice(&later[at..at + n]);
+        fold_set::<B>(out, later, n, links::cleared(set, Board(w)));
     }
-    let w = links::board_in(set);
-    let at = w * n;
-    lists::copy_over(out, &later[at..at + n], n);
-    fold_set(out, later, n, links::cleared(set, Board(w)), late);
 }
 
-// Row d becomes row l, through a lent row: a part that is written and one that is read cannot be lent together.
-fn share_by(folds: &mut [u32], row: &mut [u32], n: usize, d: Board, l: Board)
-    requires { (d.0 < n) × ((l.0 < n) × ((n ≡ length row.old) × (n * n ≤ length folds.old))) }
+// Row d becomes row l, which is before it.
+#[tactic(auto, using(std::proofs::lemmas::Grind::common_steps), unfolding(lists::specs::Tab::splice))]
+fn share(folds: &mut [u32], n: usize, d: Board, l: Board)
+    requires { (n ≤ 32) × ((l.0 < d.0) × ((d.0 < n) × (n * n ≤ length folds.old))) }
     ensures { folds.new ≡ splice (d.0 * n) n (row_at n folds.old l.0) folds.old }
 {
     let from = l.0 * n;
-    let at = d.0 * n;
-    lists::copy_over(row, &folds[from..from + n], n);
-    lists::copy_over(&mut folds[at..at + n], row, n);
-}
-
-fn share(folds: &mut [u32], n: usize, d: Board, l: Board)
-    requires { (n ≤ 32) × ((d.0 < n) × ((l.0 < n) × (n * n ≤ length folds.old))) }
-    ensures { folds.new ≡ splice (d.0 * n) n (row_at n folds.old l.0) folds.old }
-{
-    let mut row = lists::no_words();
-    share_by(folds, &mut row[0..n], n, d, l);
+    let (before, rest) = folds.split_at_mut(d.0 * n);
+    rest[..n].copy_from_slice(&before[from..from + n]);
 }
 
 // The fold of row u: that of an earlier row with the same set, where there is one.
-fn write_fold(folds: &mut [u32], later: &[u32], sets: &[u32], n: usize, own: Board, late: bool)
-    requires { Shared late n later.now sets.now own.0 folds.old }
+fn write_fold<B: Best>(folds: &mut [u32], later: &[u32], sets: &[u32], n: usize, own: Board)
+    requires { Shared B.late n later.now sets.now own.0 folds.old }
     ensures { folds.new
-        ≡ splice (own.0 * n) n (tab (fold_of late n later.now sets.now own.0) n) folds.old }
+        ≡ splice (own.0 * n) n (tab (fold_of B.late n later.now sets.now own.0) n) folds.old }
 {
     let u = own.0;
     let k = sets::first_same(sets, u);
     if k < u {
         share(folds, n, own, Board(k));
-        return;
+    } else {
+        let at = u * n;
+        fold_row::<B>(&mut folds[at..at + n], later, n, sets[u]);
     }
-    let at = u * n;
-    fold_row(&mut folds[at..at + n], later, n, sets[u], late);
 }
 
 // The folds of all rows.
-fn fold_rows(folds: &mut [u32], later: &[u32], sets: &[u32], n: usize, late: bool)
+fn fold_rows<B: Best>(folds: &mut [u32], later: &[u32], sets: &[u32], n: usize)
     requires { (n ≤ 32) × ((n ≤ length sets.now) × ((n * n ≡ length folds.old) × ((n * n ≤ length later.now) × Small n sets.now))) }
-    ensures { folds.new ≡ rows n (fold_of late n later.now sets.now) n }
+    ensures { folds.new ≡ rows n (fold_of B.late n later.now sets.now) n }
 {
     for u in 0..n {
-        write_fold(folds, later, sets, n, Board(u), late);
+        write_fold::<B>(folds, later, sets, n, Board(u));
     }
 }
 
 // A row takes in its fold, and has no time for the board itself.
-fn take_fold(row: &mut [u32], joined: &[u32], n: usize, own: Board, late: bool)
+#[tactic(auto, using(times::proofs::Rows::row_last))]
+fn take_fold<B: Best>(row: &mut [u32], joined: &[u32], n: usize, own: Board)
     requires { (own.0 < n) × ((n ≡ length row.old) × (n ≡ length joined.now)) }
-    ensures { row.new ≡ tab (joined_row late (λ v. slice_index row.old v) (λ v. slice_index joined.now v) own.0) n }
+    ensures { row.new ≡ tab (joined_row B.late (λ v. slice_index row.old v) (λ v. slice_index joined.now v) own.0) n }
 {
     let u = own.0;
-    fold(row, joined, n, late);
+    fold::<B>(row, joined, n);
     row[u] = 0;
 }
 
 // All rows do, where they stand.
-fn fold_over(half: &mut [u32], folds: &[u32], n: usize, late: bool)
+fn fold_over<B: Best>(half: &mut [u32], folds: &[u32], n: usize)
     requires { (n ≤ 32) × ((n * n ≡ length half.old) × (n * n ≤ length folds.now)) }
-    ensures { half.new ≡ rows n (λ u. joined_row late (cell n half.old u) (cell n folds.now u) u) n }
+    ensures { half.new ≡ rows n (λ u. joined_row B.late (cell n half.old u) (cell n folds.now u) u) n }
 {
     for u in 0..n {
         let at = u * n;
-        take_fold(&mut half[at..at + n], &folds[at..at + n], n, Board(u), late);
+        take_fold::<B>(&mut half[at..at + n], &folds[at..at + n], n, Board(u));
     }
 }
 
@@ -155,20 +160,21 @@ fn arrive(half: &mut [u32], later: &[u32], sets: &mut [u32], folds: &mut [u32], 
 {
     let some = sets::some_rows(later, n);
     sets::write(sets, half, n, some);
-    fold_rows(folds, later, sets, n, false);
-    fold_over(half, folds, n, false);
+    fold_rows::<Earliest>(folds, later, sets, n);
+    fold_over::<Earliest>(half, folds, n);
 }
 
 // ---- rows and columns exchanged
 
 // Column u of half.
+#[tactic(auto, using(lists::proofs::Tab::made_all))]
 fn transpose_row(out: &mut [u32], half: &[u32], n: usize, own: Board)
     requires { (n ≤ 32) × ((own.0 < n) × ((n ≡ length out.old) × (n * n ≤ length half.now))) }
     ensures { out.new ≡ tab (λ v. cell n half.now v own.0) n }
 {
     let u = own.0;
-    for v in 0..n {
-        out[v] = half[v * n + u];
+    for (v, x) in out.iter_mut().enumerate() {
+        *x = half[v * n + u];
     }
 }
 
@@ -203,30 +209,25 @@ fn depart(half: &mut [u32], right: &[u32], sets: &mut [u32], far: &mut [u32], n:
     ensures { half.new ≡ departures n half.old right.now }
 {
     column_sets(sets, far, half, right, n);
-    fold_rows(half, far, sets, n, true);
+    fold_rows::<Latest>(half, far, sets, n);
     transpose(far, half, n);
-    fold_over(far, right, n, true);
-    lists::copy_over(half, far, n * n);
+    fold_over::<Latest>(far, right, n);
+    half.copy_from_slice(far);
 }
 
 // ---- composition
 
 // Both halves, with room lent for sets and for a table.
+#[tactic(auto, using(crate::proofs::Gathered::both_halves))]
 fn compose_in(t: &mut [u32], right: &[u32], sets: &mut [u32], room: &mut [u32], n: usize)
     requires { (n ≤ 32) × ((times_words n ≡ length t.old) × ((times_words n ≤ length right.now)
         × ((n ≡ length sets.old) × (n * n ≡ length room.old)))) }
     ensures { t.new ≡ compose_times n t.old right.now }
 {
     let m = n * n;
-    arrive(&mut t[0..m], right, sets, room, n);
-    depart(&mut t[m..m + m], &right[m..], sets, room, n);
-}
-
-// As many zeros as half of the largest table has words.
-fn no_half() -> [u32; 1024]
-    ensures { result ≡ zeros 1024 }
-{
-    [0u32; 1024]
+    let (arrivals, departures) = t.split_at_mut(m);
+    arrive(arrivals, right, sets, room, n);
+    depart(departures, &right[m..], sets, room, n);
 }
 
 // t, the earlier part, becomes its composition with right, the later part.
@@ -234,8 +235,7 @@ pub fn compose_over(t: &mut [u32], right: &[u32], n: usize)
     requires { (n ≤ 32) × ((times_words n ≡ length t.old) × (times_words n ≤ length right.now)) }
     ensures { t.new ≡ compose_times n t.old right.now }
 {
-    let m = n * n;
-    let mut sets = lists::no_words();
-    let mut room = no_half();
-    compose_in(t, right, &mut sets[0..n], &mut room[0..m], n);
+    let mut sets = lists::zeroed::<32>();
+    let mut room = lists::zeroed::<1024>();
+    compose_in(t, right, &mut sets[..n], &mut room[..n * n], n);
 }

@@ -126,3 +126,5 @@ closed-within n t n32 =
     ext_get_or 0 (closed n t) (within n most_links t) (z ∙ sym (length-within n most_links t))
     (λ u l. let h : u < n = omega arith in bits_ext 32 (get_or (closed n t) u 0) (get_or (within n most_links t) u 0) (closed_small n t u h)
     (within_small n (most_links - 1) t u h) (λ v hv. closed-bit n t n32 u v h hv))
+
+pub ruleset closes = (closed-within)

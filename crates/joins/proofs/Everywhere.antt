@@ -2,7 +2,7 @@
 -- nothing.
 use mathlib.Core.Path.{◌≡◌, sym, ◌∙◌, subst}
 use mathlib.Core.Logic.{◌≢◌, ⊎_elim}
-use mathlib.Core.Bool.{◌||◌, not}
+use mathlib.Core.Bool.{true, ◌||◌, not}
 use mathlib.Core.List.{List}
 use Prim.Native.Nat.{ℕ, zero, suc, ◌-◌, ◌^◌, ◌≤◌, ◌<◌}
 use native.Mathlib.Nat.{not-suc-le-zero, le_of_suc-le-suc, eq-or-lt_of_le, lt_of_lt_of_le, le_refl}
@@ -22,6 +22,7 @@ use Rattle.links.proofs.Bits.{link-tab, bit-without, without_32}
 use Rattle.links.proofs.Ways.{one, Short, snoc, last_link, within_way, way_short, length-within, within_small}
 use Rattle.searches.proofs.Search.{pair_out}
 use Rattle.joins.specs.Warshall.{Into}
+use Rattle.joins.proofs.Closure.{into_pass}
 
 -- the boards that a link of the first k rows leads to
 abbrev pub led_to : List ℕ → ℕ → ℕ
@@ -88,3 +89,9 @@ module _ (n : ℕ) (t : List ℕ) (n32 : n ≤ 32) (everywhere : T (connected n 
       ext_get_or 0 (tab f n) (within n most_links t) (z ∙ sym (length-within n most_links t))
       (λ u l. let h : u < n = omega arith in bits_ext 32 (get_or (tab f n) u 0) (get_or (within n most_links t) u 0)
       (subst (λ (x : ℕ). x < 2 ^ 32) (sym (get_or-tab f n u h)) (without_32 (led_to t n) u)) (within_small n (most_links - 1) t u h) (λ v hv. same_bit u v h hv))
+
+pub everywhere_closed : (n : ℕ) (t : List ℕ) → n ≤ 32 → connected n t ≡ true → within n most_links t ≡ tab (without (any_of (λ w. get_or t w 0) n)) n
+everywhere_closed n t n32 e = sym (everywhere_within n t n32 (tr (sym e) tt))
+
+-- what the passes over all boards stand on
+pub ruleset pass_turns = (led_into, into_pass)

@@ -1,22 +1,26 @@
 -- Tables of the unions of four rows each: the composition that looks them up is that of measure 3, on the words as they are found. Assumes nothing.
-use mathlib.Core.Path.{◌≡◌, sym, ap, ◌∙◌, subst}
+use mathlib.Core.Path.{◌≡◌, refl, sym, ap, ◌∙◌, subst}
 use mathlib.Core.Logic.{◌≢◌, ◌⊎◌, inl, inr, ⊎_elim, ◌↔◌}
-use mathlib.Core.Bool.{Bool, ◌||◌, not, or_assoc}
+use mathlib.Core.Bool.{Bool, true, false, ◌||◌, not, or_assoc}
 use mathlib.Core.List.{List, [], ◌∷◌}
-use Prim.Native.Nat.{ℕ, suc, ◌+◌, ◌-◌, ◌/◌, ◌%◌, ◌^◌, ◌≤◌, ◌<◌, zero-le}
-use native.Mathlib.Nat.{lt_of_lt_of_le, mod-lt, zero-lt-suc}
+use Prim.Native.Nat.{ℕ, zero, suc, ◌+◌, ◌-◌, ◌*◌, ◌/◌, ◌%◌, ◌^◌, ◌≤◌, ◌<◌, zero-le}
+use native.Mathlib.Nat.{lt_of_lt_of_le, mod-lt, zero-lt-suc, not-suc-le-zero, le_of_suc-le-suc, mul-zero, add-zero}
 use native.Mathlib.Omega.{arith}
 use lib.Bits.{bit_and, bit_or, or_lt}
 use lib.Dec.{T, eqb, eqb→eq, eqb_refl}
-use lib.ListN.{length, get_or}
+use lib.ListN.{length, take, get_or}
+use lib.Seq.{ext_get_or, get_or-take, length-take-le}
 use lib.Pow.{pow_mono, shr-shr, field, mod-mod-pow}
 use Rattle.model.specs.Recording.{bit, link}
-use Rattle.model.proofs.Logic.{tr, bool_ext, or_l, or_r, or_cases, and_both, and_l, and_r, eqb_ne, ne_eqb, eq_or, eq_refl, le_or_lt}
+use Rattle.model.proofs.Logic.{tr, T→≡, bool_ext, or_l, or_r, or_cases, and_both, and_l, and_r, eqb_ne, ne_eqb, eq_or, eq_refl, le_or_lt}
 use Rattle.model.proofs.Bits.{bit-or, bit-one, bits_ext}
 use Rattle.model.proofs.Ones.{all_in, all_out}
 use Rattle.lists.specs.Tab.{tab, kept, zeros, splice, every}
-use Rattle.lists.proofs.Splice.{word_inside, word_after}
-use Rattle.lists.proofs.Tab.{get_or-tab, tab_ext, every_in, every_out, every_ext}
+use native.Mathlib.Numerals.{add-one}
+use Rattle.lists.proofs.Many.{one_bit}
+use Rattle.lists.proofs.Splice.{word_inside, word_after, read_inside}
+use borrow.Author.Tests.{ne_eqb as not_equal}
+use Rattle.lists.proofs.Tab.{get_or-tab, tab_ext, every_none, every-next, every_stop, every_in, every_out, every_ext}
 use Rattle.links.specs.Tables.{without, gathered, compose_row, compose, pair_full, row_full, full}
 use Rattle.links.proofs.Bits.{link-tab, gathered-bit, Joined, compose-link, bit-without, without_32, zeros_none, below_pow}
 use Rattle.joins.specs.LookUps.{four_of, unions_of, tables_from, looked, looked_word, looked_row, looked_full}
@@ -191,3 +195,56 @@ looked-compose n s t n32 size = tab_ext (looked_row (tables_of n t) s) (compose_
 pub looked-full : (n : ℕ) (s t : List ℕ) → n ≤ 32 → n ≡ length t → every (looked_full n (tables_of n t) s) n ≡ full n (compose n s t)
 unfolding full
 looked-full n s t n32 size = every_ext (looked_full n (tables_of n t) s) (row_full n (compose n s t)) n (λ u h. row-full n s t n32 size u h)
+
+-- ---- the loops
+
+-- the tables, one by one
+tables-at : (rows : List ℕ) (k m j : ℕ) → j < m → get_or (tables_from rows k m) j [] ≡ unions_of rows (k + 4 * j)
+unfolding tables_from
+tables-at rows k zero j h = absurd (not-suc-le-zero h)
+tables-at rows k (suc m) zero h = rw (mul-zero, add-zero)
+tables-at rows k (suc m) (suc j) h = tables-at rows (k + 4) m j (le_of_suc-le-suc h) ∙ ap (unions_of rows) (omega arith)
+
+length-tables : (rows : List ℕ) (k m : ℕ) → length (tables_from rows k m) ≡ m
+unfolding tables_from
+length-tables rows k zero = refl
+length-tables rows k (suc m) = ap suc (length-tables rows (k + 4) m)
+
+pub tables_by : (rows : List ℕ) (ts : List (List ℕ)) (m : ℕ) → length ts ≡ m → ((j : ℕ) → j < m → get_or ts j [] ≡ unions_of rows (4 * j)) → ts ≡ tables_from rows 0 m
+tables_by rows ts m e f =
+    ext_get_or [] ts (tables_from rows 0 m) (e ∙ sym (length-tables rows 0 m))
+    (λ j h. f j (omega arith) ∙ ap (unions_of rows) (omega arith) ∙ sym (tables-at rows 0 m j (omega arith)))
+
+-- a turn of the test of all rows
+module _ (n : ℕ) (ts : List (List ℕ)) (s : List ℕ) (u : ℕ) (h : u < n) where
+  pub looked_turn : every (looked_full n ts s) u ≡ true → bit_and (looked_word ts (get_or (take n s) u 0) u) (2 ^ n - 1) ≡ 2 ^ n - 1
+      → every (looked_full n ts s) (u + 1) ≡ true
+  unfolding looked_full
+  looked_turn e q = every-next (looked_full n ts s) u e (T→≡ _ (eq_refl (rw get_or-take at q)))
+
+  pub looked_stop : (bit_and (looked_word ts (get_or (take n s) u 0) u) (2 ^ n - 1) ≢ 2 ^ n - 1) → every (looked_full n ts s) n ≡ false
+  unfolding looked_full
+  looked_stop q = every_stop (looked_full n ts s) n u h (not_equal _ _ (rw get_or-take at q))
+
+-- a turn of the loop over the tables
+pub looked_none : (ts : List (List ℕ)) (row : ℕ) → looked ts row 0 ≡ row
+unfolding looked
+looked_none ts row = refl
+
+pub looked_next : (ts : List (List ℕ)) (row j : ℕ) → looked ts row (j + 1) ≡ bit_or (looked ts row j) (get_or (get_or ts j []) (row / 2 ^ (4 * j) % 16) 0)
+unfolding looked
+looked_next ts row j = rw add-one
+
+pub looked_all_eight : (ts : List (List ℕ)) (x u : ℕ) → looked_word ts x u ≡ looked ts (bit_or x (2 ^ u)) 8
+unfolding looked_word
+looked_all_eight ts x u = refl
+
+pub ruleset looked_turns = (one_bit, looked_none, looked_next, looked_all_eight)
+
+pub ruleset full_turns = (every_none, looked_turn, looked_stop, length-take-le)
+
+pub ruleset look_ups = (looked-compose, looked-full)
+
+-- the words that were loaded, as code lends them
+pub lent_words : (n : ℕ) (xs x : List ℕ) → length xs ≡ n → x ≡ splice 0 n xs (zeros 32) → take n x ≡ xs
+lent_words n xs x e q = rw q (read_inside 0 n xs (zeros 32) e zero-le)

@@ -11,10 +11,10 @@ use lib.Seq.{ext_get_or}
 use Rattle.model.specs.Recording.{bit, link}
 use Rattle.model.proofs.Bits.{or_none}
 use Rattle.lists.specs.Tab.{tab, kept}
-use Rattle.lists.proofs.Tab.{tab_ext, length-tab, get_or-tab}
+use Rattle.lists.proofs.Tab.{tab_ext, length-tab, get_or-tab, made_all}
 use Rattle.links.specs.Tables.{either_row, union, without, gathered, through_row, compose_row, compose}
 use Rattle.joins.specs.Columns.{column_row, four_row}
-use Rattle.joins.specs.Warshall.{pass, passes, clear_row}
+use Rattle.joins.specs.Warshall.{pass, clear_row}
 
 -- before the first column the rows are those of the union
 pub through_none : (s t : List ℕ) (n : ℕ) → union n s t ≡ tab (through_row s t 0) n
@@ -67,12 +67,19 @@ no_four out s t w n z e =
     same : {x y : ℕ} → x ≡ y → (b : Bool) {r : ℕ} → r ≡ 0 → bit_or x (kept b r) ≡ y
     same {x} e b z = ap (bit_or x) (kept_none b z) ∙ or_zero_r x ∙ e
 
-pub passes-next : (n : ℕ) (t : List ℕ) (k : ℕ) → passes n t (k + 1) ≡ pass n (passes n t k) k
-unfolding passes
-passes-next n t k = rw add-one
-
 -- own bits cleared after the last column
 pub clear_through : (s t : List ℕ) (n : ℕ) → tab (clear_row (tab (through_row s t n) n)) n ≡ compose n s t
 unfolding compose compose_row clear_row
 clear_through s t n =
     tab_ext (clear_row (tab (through_row s t n) n)) (compose_row n s t) n (λ u h. ap (λ (x : ℕ). without x u) (get_or-tab (through_row s t n) n u h))
+
+-- a pass is a column over the table itself
+pub pass_is : (n : ℕ) (t : List ℕ) (k : ℕ) → pass n t k ≡ tab (column_row t t (get_or t k 0) k) n
+unfolding pass
+pass_is n t k = refl
+
+pub ruleset columns = (made_all, no_column, pass_is)
+
+pub ruleset fours = (made_all, no_four)
+
+pub ruleset column_turns = (through_none, through_next, through_four)

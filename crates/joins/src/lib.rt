@@ -2,7 +2,7 @@
 // is that of `links`: n words, 2 to 32, bit v of word u for the pair u, v. Words are taken as they are found.
 #![tactic(auto)]
 
-ghost use Rattle.std.specs.Prelude.{◌≡◌, [], ◌+◌, ◌/◌, ◌%◌, ◌^◌, ◌≤◌, ◌<◌, length, get_or};
+ghost use Rattle.std.specs.Prelude.{◌≡◌, [], ◌+◌, ◌*◌, ◌/◌, ◌%◌, ◌^◌, ◌≤◌, ◌<◌, length, get_or};
 ghost use Rattle.model.specs.Journey.{most_links};
 ghost use Rattle.lists.specs.Tab.{tab, zeros, splice, every};
 ghost use Rattle.links.specs.Tables.{union, through_row, compose, within, full};
@@ -13,18 +13,20 @@ ghost use Rattle.joins.specs.Warshall.{pass, passes, clear_row, Into};
 use model::Board;
 
 // The bits of the boards' own links are cleared.
+#[tactic(auto, using(lists::proofs::Tab::made_all), unfolding(crate::specs::Warshall::clear_row))]
 fn clear_own(t: &mut [u32], n: usize)
     requires { (n ≤ 32) × (n ≡ length t.old) }
     ensures { t.new ≡ tab (clear_row t.old) n }
 {
-    for u in 0..n {
-        t[u] = links::cleared(t[u], Board(u));
+    for (u, row) in t.iter_mut().enumerate() {
+        *row = links::cleared(*row, Board(u));
     }
 }
 
 // ---- two parts: the composition of measure 3
 
 // A column: `row`, what board b reaches in the later part, goes to every board that reaches b in the earlier one.
+#[tactic(auto, using(crate::proofs::Rows::columns), unfolding(crate::specs::Columns::column_row, model::specs::Recording::link, model::specs::Recording::bit))]
 fn add_column(out: &mut [u32], left: &[u32], row: u32, b: Board, n: usize)
     requires { (b.0 < 32) × ((n ≡ length out.old) × (n ≤ length left.now)) }
     ensures { out.new ≡ tab (column_row out.old left.now row b.0) n }
@@ -33,12 +35,13 @@ fn add_column(out: &mut [u32], left: &[u32], row: u32, b: Board, n: usize)
         return;
     }
     let w = b.0;
-    for u in 0..n {
-        out[u] = out[u] | lists::keep(row, (left[u] >> w) % 2);
+    for (u, word) in out.iter_mut().enumerate() {
+        *word |= lists::keep(row, (left[u] >> w) % 2);
     }
 }
 
 // The columns of b and the three boards after it: four at once, so that each word of out is read and written once for them.
+#[tactic(auto, using(crate::proofs::Rows::fours), unfolding(crate::specs::Columns::four_row, model::specs::Recording::link, model::specs::Recording::bit))]
 fn add_four(out: &mut [u32], left: &[u32], right: &[u32], b: Board, n: usize)
     requires { (n ≤ 32) × ((b.0 + 4 ≤ n) × ((n ≡ length out.old) × ((n ≤ length left.now) × (n ≤ length right.now)))) }
     ensures { out.new ≡ tab (four_row out.old left.now right.now b.0) n }
@@ -51,9 +54,9 @@ fn add_four(out: &mut [u32], left: &[u32], right: &[u32], b: Board, n: usize)
     if first | second | third | fourth == 0 {
         return;
     }
-    for u in 0..n {
+    for (u, word) in out.iter_mut().enumerate() {
         let l = left[u] >> w;
-        out[u] = out[u]
+        *word = *word
             | lists::keep(first, l % 2)
             | lists::keep(second, (l >> 1) % 2)
             | lists::keep(third, (l >> 2) % 2)
@@ -62,11 +65,13 @@ fn add_four(out: &mut [u32], left: &[u32], right: &[u32], b: Board, n: usize)
 }
 
 // The columns of the boards below r, as many as go by fours.
+#[tactic(auto, using(crate::proofs::Rows::column_turns))]
 fn add_fours(out: &mut [u32], left: &[u32], right: &[u32], n: usize) -> usize
     requires { (n ≤ 32) × ((out.old ≡ union n left.now right.now) × ((n ≡ length out.old) × ((n ≤ length left.now) × (n ≤ length right.now)))) }
     ensures { (result ≤ n) × (out.new ≡ tab (through_row left.now right.now result) n) }
 {
     let mut w = 0;
+    // By hand: a `for` over the fours costs 2 per cent more instructions.
     while w + 4 <= n {
         add_four(out, left, right, Board(w), n);
         w += 4;
@@ -75,17 +80,20 @@ fn add_fours(out: &mut [u32], left: &[u32], right: &[u32], n: usize) -> usize
 }
 
 // The columns of all boards.
+#[tactic(auto, using(crate::proofs::Rows::column_turns))]
 fn add_columns(out: &mut [u32], left: &[u32], right: &[u32], n: usize)
     requires { (n ≤ 32) × ((out.old ≡ union n left.now right.now) × ((n ≡ length out.old) × ((n ≤ length left.now) × (n ≤ length right.now)))) }
     ensures { out.new ≡ tab (through_row left.now right.now n) n }
 {
     let from = add_fours(out, left, right, n);
+    // By number: the rest of a slice would count from 0 again.
     for w in from..n {
         add_column(out, left, right[w], Board(w), n);
     }
 }
 
 // The composition by columns: the union, and the pairs that are joined over some board.
+#[tactic(auto, using(crate::proofs::Rows::clear_through))]
 fn join_columns(out: &mut [u32], left: &[u32], right: &[u32], n: usize)
     requires { (n ≤ 32) × ((n ≡ length out.old) × ((n ≤ length left.now) × (n ≤ length right.now))) }
     ensures { out.new ≡ compose n left.now right.now }
@@ -132,55 +140,50 @@ fn unions(rows: &[u32; 32], k: usize) -> [u32; 16]
 fn tables(rows: &[u32; 32]) -> [[u32; 16]; 8]
     ensures { result ≡ tables_from rows.now 0 8 }
 {
-    [
-        unions(rows, 0),
-        unions(rows, 4),
-        unions(rows, 8),
-        unions(rows, 12),
-        unions(rows, 16),
-        unions(rows, 20),
-        unions(rows, 24),
-        unions(rows, 28),
-    ]
+    let mut ts = [[0; 16]; 8];
+    for (j, table) in ts.iter_mut().enumerate() {
+        *table = unions(rows, 4 * j);
+    }
+    ts
 }
 
-// What the four bits of `row` from bit k on find in table j.
-fn look_up(ts: &[[u32; 16]; 8], j: usize, row: u32, k: u32) -> u32
-    requires { (j < 8) × (k < 32) }
-    ensures { result ≡ get_or (get_or ts.now j []) (row / 2 ^ k % 16) 0 }
+// What the four bits of `row` from bit 4 j on find in table j.
+fn look_up(table: &[u32; 16], row: u32, j: usize) -> u32
+    requires { j < 8 }
+    ensures { result ≡ get_or table.now (row / 2 ^ (4 * j) % 16) 0 }
 {
-    let i = ((row >> k) % 16) as usize;
-    ts[j][i]
+    let i = (row >> (4 * j)) % 16;
+    table[i as usize]
 }
 
 // The word x of board b with its own bit, which leads on to its row in the later part, and what the eight tables have for it.
+#[tactic(auto, using(crate::proofs::LookUps::looked_turns))]
 fn through(x: u32, b: Board, ts: &[[u32; 16]; 8]) -> u32
     requires { b.0 < 32 }
     ensures { result ≡ looked_word ts.now x b.0 }
 {
     let u = b.0;
     let row = x | (1u32 << u);
-    row | look_up(ts, 0, row, 0)
-        | look_up(ts, 1, row, 4)
-        | look_up(ts, 2, row, 8)
-        | look_up(ts, 3, row, 12)
-        | look_up(ts, 4, row, 16)
-        | look_up(ts, 5, row, 20)
-        | look_up(ts, 6, row, 24)
-        | look_up(ts, 7, row, 28)
+    let mut all = row;
+    for (j, table) in ts.iter().enumerate() {
+        all |= look_up(table, row, j);
+    }
+    all
 }
 
 // The rows of the composition, each from its own word alone, and so in place.
+#[tactic(auto, using(lists::proofs::Tab::made_all), unfolding(crate::specs::LookUps::looked_row))]
 fn join_rows(t: &mut [u32], ts: &[[u32; 16]; 8], n: usize)
     requires { (n ≤ 32) × (n ≡ length t.old) }
     ensures { t.new ≡ tab (looked_row ts.now t.old) n }
 {
-    for u in 0..n {
-        t[u] = links::cleared(through(t[u], Board(u), ts), Board(u));
+    for (u, row) in t.iter_mut().enumerate() {
+        *row = links::cleared(through(*row, Board(u), ts), Board(u));
     }
 }
 
 // The composition by tables of unions, in place.
+#[tactic(auto, using(crate::proofs::LookUps::look_ups))]
 fn join_tables(t: &mut [u32], right: &[u32], n: usize)
     requires { (n ≤ 32) × ((n ≡ length t.old) × (n ≡ length right.now)) }
     ensures { t.new ≡ compose n t.old right.now }
@@ -190,46 +193,42 @@ fn join_tables(t: &mut [u32], right: &[u32], n: usize)
     join_rows(t, &ts, n);
 }
 
-// 1 for a row that has links.
-fn one_if_linked(row: u32) -> usize
-    ensures { result ≤ 1 }
-{
-    if row == 0 { 0 } else { 1 }
-}
-
 // How many rows have links.
 fn filled(t: &[u32], n: usize) -> usize
     requires { n ≤ length t.now }
 {
     let mut k = 0usize;
-    for u in 0..n {
-        k += one_if_linked(t[u]);
+    // `filter` and `count` cost more than twice the instructions.
+    for row in &t[..n] {
+        k += usize::from(*row != 0);
     }
     k
 }
 
 // The later part is composed onto t, the earlier one. Where few of its rows have links, their columns cost less than the tables; they read the
 // earlier part as it was, so it is copied first.
+#[tactic(auto, using(crate::proofs::LookUps::lent_words))]
 pub fn join_over(t: &mut [u32], right: &[u32], n: usize)
     requires { (n ≤ 32) × ((n ≡ length t.old) × (n ≡ length right.now)) }
     ensures { t.new ≡ compose n t.old right.now }
 {
     if filled(right, n) <= 8 {
         let before = lists::load(t, n);
-        join_columns(t, &before[0..n], right, n);
-        return;
+        join_columns(t, &before[..n], right, n);
+    } else {
+        join_tables(t, right, n);
     }
-    join_tables(t, right, n);
 }
 
 // Whether every row of the composition has the bits of all boards, its own counted in. The first that lacks one ends it.
+#[tactic(auto, using(crate::proofs::LookUps::full_turns))]
 fn are_full(left: &[u32], ts: &[[u32; 16]; 8], n: usize) -> bool
     requires { (n ≤ 32) × (n ≤ length left.now) }
     ensures { result ≡ every (looked_full n ts.now left.now) n }
 {
     let all = links::low_bits(n);
-    for u in 0..n {
-        if through(left[u], Board(u), ts) & all != all {
+    for (u, row) in left[..n].iter().enumerate() {
+        if through(*row, Board(u), ts) & all != all {
             return false;
         }
     }
@@ -237,6 +236,7 @@ fn are_full(left: &[u32], ts: &[[u32; 16]; 8], n: usize) -> bool
 }
 
 // Whether the composition marks every ordered pair of different boards, without writing it.
+#[tactic(auto, using(crate::proofs::LookUps::look_ups))]
 pub fn joins_full(left: &[u32], right: &[u32], n: usize) -> bool
     requires { (n ≤ 32) × ((n ≤ length left.now) × (n ≡ length right.now)) }
     ensures { result ≡ full n (compose n left.now right.now) }
@@ -249,6 +249,7 @@ pub fn joins_full(left: &[u32], right: &[u32], n: usize) -> bool
 // ---- a pick's own table
 
 // Each row that links to b takes in b's row.
+#[tactic(auto, using(crate::proofs::Rows::columns), unfolding(crate::specs::Columns::column_row, model::specs::Recording::link, model::specs::Recording::bit))]
 fn pass_over(t: &mut [u32], b: Board, n: usize)
     requires { (n ≤ 32) × ((b.0 < n) × (n ≡ length t.old)) }
     ensures { t.new ≡ pass n t.old b.0 }
@@ -258,23 +259,24 @@ fn pass_over(t: &mut [u32], b: Board, n: usize)
     if row == 0 {
         return;
     }
-    for u in 0..n {
-        t[u] = t[u] | lists::keep(row, (t[u] >> w) % 2);
+    for word in t.iter_mut() {
+        *word |= lists::keep(row, (*word >> w) % 2);
     }
 }
 
 // The same; where no row links to b it is left out.
+#[tactic(auto, using(crate::proofs::Closure::no_pass))]
 fn pass_if(t: &mut [u32], into: u32, b: Board, n: usize)
     requires { (n ≤ 32) × ((b.0 < n) × ((n ≡ length t.old) × Into n t.old into)) }
     ensures { t.new ≡ pass n t.old b.0 }
 {
-    if !links::linked(into, b) {
-        return;
+    if links::linked(into, b) {
+        pass_over(t, b, n);
     }
-    pass_over(t, b, n);
 }
 
 // A pass leads to no board that no link led to before, so the boards that some link leads to are looked up once.
+#[tactic(auto, using(crate::proofs::Everywhere::pass_turns), unfolding(crate::specs::Warshall::passes))]
 fn pass_over_all(t: &mut [u32], n: usize)
     requires { (n ≤ 32) × (n ≡ length t.old) }
     ensures { t.new ≡ passes n t.old n }
@@ -286,6 +288,7 @@ fn pass_over_all(t: &mut [u32], n: usize)
 }
 
 // The pairs joined within one pick, by Warshall's method, which knows no limit.
+#[tactic(auto, using(crate::proofs::Closure::closes), unfolding(crate::specs::Warshall::closed))]
 fn close_by_passes(t: &mut [u32], n: usize)
     requires { (n ≤ 32) × (n ≡ length t.old) }
     ensures { t.new ≡ within n most_links t.old }
@@ -296,6 +299,7 @@ fn close_by_passes(t: &mut [u32], n: usize)
 
 // The pairs joined within one pick. Where links lead from every board to every other, each gets to all boards that some link leads to: two
 // searches tell, and no pass is made.
+#[tactic(auto, using(crate::proofs::Everywhere::everywhere_closed))]
 fn close(t: &mut [u32], n: usize)
     requires { (n ≤ 32) × (n ≡ length t.old) }
     ensures { t.new ≡ within n most_links t.old }
@@ -303,9 +307,9 @@ fn close(t: &mut [u32], n: usize)
     if searches::is_connected(t, n) {
         let boards = lists::any_of(t, n);
         links::fill_rows(t, boards, n);
-        return;
+    } else {
+        close_by_passes(t, n);
     }
-    close_by_passes(t, n);
 }
 
 // The pairs joined within the pick of the words, over out.
@@ -313,16 +317,17 @@ pub fn close_over(out: &mut [u32], words: &[u32], n: usize)
     requires { (n ≤ 32) × ((n ≡ length out.old) × (n ≡ length words.now)) }
     ensures { out.new ≡ within n most_links words.now }
 {
-    lists::copy_over(out, words, n);
+    out.copy_from_slice(words);
     close(out, n);
 }
 
 // The pairs joined within the pick of the words, by value, and zeros up to 32.
+#[tactic(auto, using(std::proofs::lemmas::Grind::common_steps), unfolding(lists::specs::Tab::splice))]
 pub fn closed_words(words: &[u32], n: usize) -> [u32; 32]
     requires { (n ≤ 32) × (n ≡ length words.now) }
     ensures { result ≡ splice 0 n (within n most_links words.now) (zeros 32) }
 {
     let mut t = lists::load(words, n);
-    close(&mut t[0..n], n);
+    close(&mut t[..n], n);
     t
 }

@@ -8,7 +8,9 @@ use native.Mathlib.Omega.{arith}
 use lib.Bits.{bit_xor, xor_lt, or_lt}
 use lib.Count.{ones}
 use lib.Dec.{T, eqb, eqb→eq}
-use lib.ListN.{get_or}
+use lib.ListN.{take, get_or}
+use lib.Seq.{get_or-take, length-take-le}
+use Rattle.std.proofs.Common.{Fits, w32}
 use lib.Pow.{pow_mono}
 use Rattle.model.specs.Recording.{bit, link, Words, Clean}
 use Rattle.model.specs.Journey.{most_links}
@@ -16,9 +18,9 @@ use Rattle.model.specs.Count.{NumberOfPairs}
 use Rattle.model.specs.Measures.{Leads, Unmet}
 use Rattle.model.proofs.Bits.{bit_high, bit-xor, bits_ext}
 use Rattle.model.proofs.Logic.{tr, bool_ext, cases, or_cases, or_l, or_r, not_in, not_out, eq_refl}
-use Rattle.lists.specs.Tab.{how_many}
+use Rattle.lists.specs.Tab.{how_many, how_many_pairs}
 use Rattle.lists.proofs.Tab.{get_or-tab, every_in, every_out}
-use Rattle.lists.proofs.Many.{many_ext, many_above, pairs_ext, counted_rows, pairs_zero, none_denied, ones_bits}
+use Rattle.lists.proofs.Many.{many_ext, many_above, pairs_ext, pairs_none_yet, pairs_le, row_counted, counted_rows, pairs_zero, none_denied, ones_bits}
 use Rattle.links.specs.Tables.{either_row, union, within, pair_full, row_full, full, connected, row_same, same}
 use Rattle.links.specs.Tables.{pair_unmarked, unmarked, unconnected, link_differs, differing}
 use Rattle.links.specs.Tells.{Marks}
@@ -118,9 +120,17 @@ differing-number n R l t n32 k a =
 
 -- ---- the bits that are counted
 
-pub differing_row : (l t : List ℕ) (u : ℕ) → get_or l u 0 < 2 ^ 32 → get_or t u 0 < 2 ^ 32
+differing_row : (l t : List ℕ) (u : ℕ) → get_or l u 0 < 2 ^ 32 → get_or t u 0 < 2 ^ 32
     → ones (bit_xor (get_or l u 0) (get_or t u 0)) ≡ how_many (link_differs l t u) 32
 unfolding link_differs link
 differing_row l t u p q =
     ones_bits 32 (bit_xor (get_or l u 0) (get_or t u 0)) (xor_lt 32 (get_or l u 0) (get_or t u 0) p q)
     ∙ many_ext (bit (bit_xor (get_or l u 0) (get_or t u 0))) (link_differs l t u) 32 (λ v h. bit-xor (get_or l u 0) (get_or t u 0) v)
+
+-- a turn of the loop: the bits of word u that differ are its links
+pub differing_turn : (l t : List ℕ) (u k n : ℕ) → u < n → k ≡ how_many_pairs (link_differs l t) 32 u → Fits w32 (get_or l u 0) → Fits w32 (get_or t u 0)
+    → k + ones (bit_xor (get_or (take n l) u 0) (get_or t u 0)) ≡ how_many_pairs (link_differs l t) 32 (u + 1)
+differing_turn l t u k n h e a b =
+    rw (get_or-take n l u 0) (row_counted (link_differs l t) 32 u e (differing_row l t u (omega arith) (omega arith)))
+
+pub ruleset differs_turns = (pairs_none_yet, pairs_le, differing_turn, length-take-le)

@@ -10,6 +10,7 @@ ghost use Rattle.links.specs.Picks.{united_picks};
 use model::Board;
 
 // Whether bit b of x is set.
+#[tactic(auto, unfolding(model::specs::Recording::bit))]
 pub fn linked(x: u32, b: Board) -> bool
     requires { b.0 < 32 }
     ensures { result ≡ bit x b.0 }
@@ -19,6 +20,7 @@ pub fn linked(x: u32, b: Board) -> bool
 }
 
 // x, with bit b clear.
+#[tactic(auto, unfolding(crate::specs::Tables::without))]
 pub fn cleared(x: u32, b: Board) -> u32
     requires { b.0 < 32 }
     ensures { result ≡ without x b.0 }
@@ -28,14 +30,16 @@ pub fn cleared(x: u32, b: Board) -> u32
 }
 
 // The first board of a set that has one.
+#[tactic(auto, using(crate::proofs::First::first_bit))]
 pub fn board_in(set: u32) -> usize
     requires { set ≢ 0 }
     ensures { (result < 32) × T (bit set result) × ((b : ℕ) → b < result → bit set b ≡ false) }
 {
-    u32::trailing_zeros(set) as usize
+    set.trailing_zeros() as usize
 }
 
 // The word of the bits below n.
+#[tactic(auto, using(model::proofs::Ones::low_ones))]
 pub fn low_bits(n: usize) -> u32
     requires { n ≤ 32 }
     ensures { result ≡ 2 ^ n - 1 }
@@ -47,43 +51,48 @@ pub fn low_bits(n: usize) -> u32
 }
 
 // Every row of out becomes the same boards, but for its own bit.
+#[tactic(auto, using(lists::proofs::Tab::made_all))]
 pub fn fill_rows(out: &mut [u32], boards: u32, n: usize)
     requires { (n ≤ 32) × (n ≡ length out.old) }
     ensures { out.new ≡ tab (without boards) n }
 {
-    for u in 0..n {
-        out[u] = cleared(boards, Board(u));
+    for (u, row) in out.iter_mut().enumerate() {
+        *row = cleared(boards, Board(u));
     }
 }
 
 // ---- compositions: each writes one table over the n words of out
 
 // The links open in either.
+#[tactic(auto, using(lists::proofs::Tab::made_all), unfolding(crate::specs::Tables::either_row, crate::specs::Tables::union))]
 pub fn unite(out: &mut [u32], left: &[u32], right: &[u32], n: usize)
     requires { (n ≡ length out.old) × ((n ≤ length left.now) × (n ≤ length right.now)) }
     ensures { out.new ≡ union n left.now right.now }
 {
-    for u in 0..n {
-        out[u] = left[u] | right[u];
+    for (u, row) in out.iter_mut().enumerate() {
+        *row = left[u] | right[u];
     }
 }
 
 // The links of `right` join those of t.
+#[tactic(auto, using(lists::proofs::Tab::made_all), unfolding(crate::specs::Tables::either_row, crate::specs::Tables::union))]
 pub fn unite_into(t: &mut [u32], right: &[u32], n: usize)
     requires { (n ≡ length t.old) × (n ≤ length right.now) }
     ensures { t.new ≡ union n t.old right.now }
 {
-    for u in 0..n {
-        t[u] = t[u] | right[u];
+    for (u, row) in t.iter_mut().enumerate() {
+        *row |= right[u];
     }
 }
 
 // The links of each of the picks after the first `from` of m, n words each, join those of out; how many unions were made is counted.
+#[tactic(auto, using(crate::proofs::Picks::unites), unfolding(crate::specs::Picks::united_picks))]
 pub fn unite_picks(out: &mut [u32], words: &[u32], n: usize, from: usize, m: usize) -> usize
     requires { (n ≡ length out.old) × (m * n ≤ length words.now) }
     ensures { (result ≡ m - from) × (out.new ≡ united_picks n out.old words.now from (m - from)) }
 {
     let mut made: usize = 0;
+    // By number: `chunks_exact` wants n above 0.
     for k in from..m {
         let at = k * n;
         unite_into(out, &words[at..at + n], n);
@@ -92,38 +101,42 @@ pub fn unite_picks(out: &mut [u32], words: &[u32], n: usize, from: usize, m: usi
     made
 }
 
-// Of the links of t, those stay that `right` has too.
+// Of the links of t, those stay that `right` has too. The loop of `unite_into` again: one with the operation passed in would be longer than both.
+#[tactic(auto, using(lists::proofs::Tab::made_all), unfolding(crate::specs::Tables::both_row, crate::specs::Tables::intersection))]
 pub fn intersect_into(t: &mut [u32], right: &[u32], n: usize)
     requires { (n ≡ length t.old) × (n ≤ length right.now) }
     ensures { t.new ≡ intersection n t.old right.now }
 {
-    for u in 0..n {
-        t[u] = t[u] & right[u];
+    for (u, row) in t.iter_mut().enumerate() {
+        *row &= right[u];
     }
 }
 
 // ---- tests: the bits that differ are gathered, so that the loop has no branch
 
 // Whether two tables have the same n words.
+#[tactic(auto, using(crate::proofs::Gather::gathers), unfolding(crate::specs::Tables::same))]
 pub fn is_same(left: &[u32], right: &[u32], n: usize) -> bool
     requires { (n ≤ length left.now) × (n ≤ length right.now) }
     ensures { result ≡ same n left.now right.now }
 {
     let mut bad = 0u32;
-    for u in 0..n {
-        bad = bad | (right[u] ^ left[u]);
+    for (u, row) in left[..n].iter().enumerate() {
+        bad |= right[u] ^ *row;
     }
     bad == 0
 }
 
-// Whether the n words of a list are those of the union of left and right. The union is not written.
+// Whether the n words of a list are those of the union of left and right. The union is not written; one loop for both tests, with the other word
+// passed in as a closure, would be longer than the two.
+#[tactic(auto, using(crate::proofs::Gather::gathers), unfolding(crate::specs::Tables::same))]
 pub fn is_union(list: &[u32], left: &[u32], right: &[u32], n: usize) -> bool
     requires { (n ≤ length list.now) × ((n ≤ length left.now) × (n ≤ length right.now)) }
     ensures { result ≡ same n list.now (union n left.now right.now) }
 {
     let mut bad = 0u32;
-    for u in 0..n {
-        bad = bad | ((left[u] | right[u]) ^ list[u]);
+    for (u, row) in list[..n].iter().enumerate() {
+        bad |= (left[u] | right[u]) ^ *row;
     }
     bad == 0
 }
@@ -131,13 +144,14 @@ pub fn is_union(list: &[u32], left: &[u32], right: &[u32], n: usize) -> bool
 // ---- unmet conditions
 
 // How many links are in only one of two tables: the bits that differ, in whole words.
+#[tactic(auto, using(crate::proofs::Unmet::differs_turns), unfolding(crate::specs::Tables::differing))]
 pub fn differing(left: &[u32], right: &[u32], n: usize) -> u32
     requires { (n ≤ 32) × ((n ≤ length left.now) × (n ≤ length right.now)) }
     ensures { result ≡ differing n left.now right.now }
 {
     let mut k = 0u32;
-    for u in 0..n {
-        k += u32::count_ones(left[u] ^ right[u]);
+    for (u, row) in left[..n].iter().enumerate() {
+        k += (*row ^ right[u]).count_ones();
     }
     k
 }

@@ -3,7 +3,8 @@ use mathlib.Core.Path.{◌≡◌, refl, ap, ap₂, ◌∙◌, sym, subst}
 use mathlib.Core.Logic.{◌↔◌}
 use mathlib.Core.Bool.{Bool, true, false, not}
 use Prim.Native.Nat.{ℕ, zero, suc, ◌+◌, ◌*◌, ◌/◌, ◌%◌, ◌^◌, ◌≤◌, ◌<◌, zero-le}
-use native.Mathlib.Nat.{add_assoc, add-zero, suc-mul, mul-le-mul, div-one}
+use native.Mathlib.Nat.{add_assoc, add-zero, suc-mul, div-one, one-mul, mod-eq_of_lt}
+use lib.Pow.{pow-lt}
 use native.Mathlib.Numerals.{add-one}
 use native.Mathlib.Omega.{arith}
 use lib.Count.{ones, ones_step}
@@ -18,10 +19,6 @@ use Rattle.lists.specs.Tab.{every, how_many, how_many_pairs}
 use Rattle.lists.proofs.Tab.{every_in, every_out}
 
 -- ---- a loop that counts
-
-pub many_none : (f : ℕ → Bool) → how_many f 0 ≡ 0
-unfolding how_many
-many_none f = refl
 
 pub many_next : (f : ℕ → Bool) (k : ℕ) → how_many f (k + 1) ≡ how_many f k + val (f k)
 unfolding how_many
@@ -47,13 +44,10 @@ unfolding how_many_pairs
 pairs_le f n zero = zero-le
 pairs_le f n (suc k) = let e : suc k * n ≡ k * n + n = suc-mul k n in omega (arith, pairs_le f n k, many_le (f k) n)
 
--- a turn of a loop over rows, which adds the number x of row u: the sum, and that it is a small word
+-- a turn of a loop over rows, which adds the number x of row u
 module _ (f : ℕ → ℕ → Bool) (n u : ℕ) {k x : ℕ} (e : k ≡ how_many_pairs f n u) (g : x ≡ how_many (f u) n) where
   pub row_counted : k + x ≡ how_many_pairs f n (u + 1)
   row_counted = ap₂ ◌+◌ e g ∙ sym (pairs_next f n u)
-
-  pub row_small : u < 32 → n ≤ 32 → k + x ≤ 1024
-  row_small h m = let a = pairs_le f n (u + 1) in let l : u + 1 ≤ 32 = omega arith in let b = mul-le-mul l m in omega (arith, row_counted)
 
 -- ---- tests that agree
 
@@ -109,6 +103,10 @@ none_denied f g n k e =
     denied_not false h = absurd (h tt)
 
 -- ---- the set bits of a word
+
+-- the word of bit v alone, as a shift gives it
+pub one_bit : (v : ℕ) → v < 32 → 1 * 2 ^ v % 2 ^ 32 ≡ 2 ^ v
+one_bit v h = simp (one-mul, mod-eq_of_lt (pow-lt {j = 32} h))
 
 many_first : (f : ℕ → Bool) (k : ℕ) → how_many f (suc k) ≡ val (f 0) + how_many (λ i. f (suc i)) k
 unfolding how_many

@@ -1,4 +1,4 @@
--- Laws of words put in place of others, as a part that was lent and written leaves them, and the invariant of the loops that copy. Assumes nothing.
+-- Laws of words put in place of others, as a part that was lent and written leaves them, and the invariant of a loop that copies. Assumes nothing.
 use mathlib.Core.Path.{◌≡◌, refl, ap, ap₂, ◌∙◌, sym}
 use mathlib.Core.List.{List, [], ◌∷◌, ◌++◌, append-nil, append_assoc}
 use Prim.Native.Nat.{ℕ, ◌+◌, ◌-◌, ◌≤◌, ◌<◌, zero-le}
@@ -7,7 +7,7 @@ use native.Mathlib.Nat.{add-zero, add_assoc, sub-zero, add-sub_cancel_left, le_r
 use native.Mathlib.Omega.{arith}
 use lib.ListN.{length, take, drop, set, get_or, length-append, length-drop, length-set, take-append-drop, drop_of_length-le}
 use lib.Seq.{take_at, drop_at, drop-drop, take-append-le, drop-append-le, drop-append-add, length-take-le}
-use lib.Seq.{get_or-take, get_or-drop, set_split, take-suc, take-length}
+use lib.Seq.{get_or-take, get_or-drop, set_split, take-suc}
 use Rattle.lists.specs.Tab.{splice}
 
 -- what is read from the front of a list does not see its end
@@ -138,14 +138,3 @@ module _ {k : ℕ} {xs ys t : List ℕ} {u : ℕ} (m : Copied k xs ys t u) where
         long = length-set t at (get_or xs u 0) ∙ m.long;
         made = splice-set at (get_or xs u 0) t l ∙ rw (m.made, more, add-one u, take-suc xs u 0);
       }
-
-  pub copied_all : length xs ≤ u → t ≡ splice k (length xs) xs ys
-  copied_all h =
-      let q : u ≡ length xs = omega (arith, m.low) in
-      m.made ∙ rw (q, take-length)
-
-  -- over a list that is as long
-  pub copied_whole : length xs ≤ u → length ys ≡ length xs → t ≡ xs
-  copied_whole h e =
-      let q : k ≡ 0 = omega (arith, m.size) in
-      copied_all h ∙ rw q (splice_whole (length xs) xs ys (omega arith))

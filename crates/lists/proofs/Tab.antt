@@ -1,15 +1,17 @@
 -- Laws of lists made by index, and the invariants of the loops that write them. Assumes nothing.
 use mathlib.Core.Path.{◌≡◌, refl, ap, ap₂, ◌∙◌, sym}
 use mathlib.Core.Bool.{Bool, true, false, ◌&&◌}
-use mathlib.Core.List.{List, [], ◌∷◌, ◌++◌, append-nil, append_assoc}
-use Prim.Native.Nat.{ℕ, zero, suc, ◌+◌, ◌≤◌, ◌<◌, zero-le}
+use mathlib.Core.List.{List, [], ◌∷◌, ◌++◌}
+use Prim.Native.Nat.{ℕ, zero, suc, ◌+◌, ◌≤◌, ◌<◌}
 use native.Mathlib.Numerals.{add-one}
 use mathlib.Core.Logic.{⊎_elim}
 use native.Mathlib.Omega.{arith}
-use native.Mathlib.Nat.{not-suc-le-zero, eq-or-lt_of_le, le_of_suc-le-suc}
+use native.Mathlib.Nat.{not-suc-le-zero, eq-or-lt_of_le, le_of_suc-le-suc, add-zero, zero-add}
+use Rattle.std.specs.List.{list_all, range_with_len}
 use lib.Dec.{T}
-use lib.ListN.{length, drop, set, get_or, length-append, drop_of_length-le, length-set, get_or-append, length-replicate, replicate}
-use lib.Seq.{set_at, get_or_at, drop-cons, ext_get_or}
+use lib.ListN.{length, set, get_or, length-append, get_or-append, length-replicate, replicate}
+use lib.Seq.{get_or_at, ext_get_or}
+use Rattle.std.proofs.lemmas.Grind.{common_steps}
 use Rattle.model.proofs.Logic.{and_both, and_l, and_r}
 use Rattle.lists.specs.Tab.{tab, zeros, every}
 
@@ -26,45 +28,23 @@ get_or-tab f (suc k) i h =
     (λ l. get_or-append (tab f k) (f k ∷ []) 0 i (omega (arith, length-tab f k)) ∙ get_or-tab f k i l)
     (eq-or-lt_of_le (le_of_suc-le-suc h))
 
--- The invariant of a loop that writes a table of n words by index: t is f's words below u, and t₀'s from u on.
--- A function's `invariant-loop-x` is a `Made`; `made_start`, `made_turn`, `made_read` and `made_all` answer its goals.
-pub record Made (f : ℕ → ℕ) (n : ℕ) (t₀ t : List ℕ) (u : ℕ) : Type 0 where
-  pub size : n ≡ length t₀
-  pub low : u ≤ n
-  pub long : length t ≡ n
-  pub made : t ≡ tab f u ++ drop u t₀
+-- a list whose words are f's
+pub tab_of : (f : ℕ → ℕ) (n : ℕ) (t : List ℕ) → length t ≡ n → ((k : ℕ) → k < n → get_or t k 0 ≡ f k) → t ≡ tab f n
+tab_of f n t e h = ext_get_or 0 t (tab f n) (e ∙ sym (length-tab f n)) (λ i l. h i (omega arith) ∙ sym (get_or-tab f n i (omega arith)))
 
-pub made_start : {f : ℕ → ℕ} {n : ℕ} {t₀ : List ℕ} → n ≡ length t₀ → Made f n t₀ t₀ 0
-unfolding tab
-made_start e = record { size = e; low = zero-le; long = sym e; made = refl }
+-- The invariant of a loop that writes the words of t in turn: those below u are f's, the others are t₀'s. The check finds each turn by itself.
+pub record Made (f : ℕ → ℕ) (t₀ t : List ℕ) (u : ℕ) : Type 0 where
+  pub long : length t ≡ length t₀
+  pub made : (k : ℕ) → k < u → get_or t k 0 ≡ f k
+  pub left : (k : ℕ) → u ≤ k → get_or t k 0 ≡ get_or t₀ k 0
 
-module _ {f : ℕ → ℕ} {n : ℕ} {t₀ t : List ℕ} {u : ℕ} (m : Made f n t₀ t u) where
-  -- what the loop has not reached is as it was
-  pub made_read : u < n → get_or t u 0 ≡ get_or t₀ u 0
-  made_read h =
-      let l : u < length t₀ = omega arith in
-      rw (m.made, drop-cons t₀ u 0) (get_or_at (tab f u) _ _ 0 u (length-tab f u))
+-- a turn, for a loop whose word the check does not find
+pub made_turn : {f : ℕ → ℕ} {t₀ t : List ℕ} {u v : ℕ} → Made f t₀ t u → u < length t → v ≡ f u → Made f t₀ (set t u v) (u + 1)
+made_turn m h e = record { long = grind (arith, common_steps, m.long); made = λ k l. grind (arith, common_steps, m.made k); left = λ k l. grind (arith, common_steps, m.left k) }
 
-  -- a turn: the store at u
-  pub made_turn : {v : ℕ} → u < n → v ≡ f u → Made f n t₀ (set t u v) (u + 1)
-  unfolding tab
-  made_turn {v} h q =
-      let l : u < length t₀ = omega arith in
-      record {
-        size = m.size;
-        low = omega arith;
-        long = length-set t u v ∙ m.long;
-        made =
-            rw (m.made, q, add-one, drop-cons t₀ u 0)
-            (set_at (tab f u) _ _ (f u) u (length-tab f u) ∙ sym (append_assoc (tab f u) (f u ∷ []) _));
-      }
-
-  -- the loop's end
-  pub made_all : n ≤ u → t ≡ tab f n
-  made_all h =
-      let q : u ≡ n = omega (arith, m.low) in
-      let r : length t₀ ≤ n = omega (arith, m.size) in
-      m.made ∙ rw (q, drop_of_length-le t₀ {i = n} r) (append-nil (tab f n))
+-- the loop's end
+pub made_all : {f : ℕ → ℕ} {n : ℕ} {t₀ t : List ℕ} {u : ℕ} → Made f t₀ t u → length t₀ ≡ n → n ≤ u → t ≡ tab f n
+made_all {f} {n} {t₀} {t} m e h = tab_of f n t (m.long ∙ e) (λ i l. m.made i (omega arith))
 
 -- lists made by index are equal when their elements are
 pub tab_ext : (f g : ℕ → ℕ) (k : ℕ) → ((i : ℕ) → i < k → f i ≡ g i) → tab f k ≡ tab g k
@@ -102,6 +82,14 @@ pub every-next : (f : ℕ → Bool) (k : ℕ) → every f k ≡ true → f k ≡
 unfolding every
 every-next f k e g = rw (add-one, e, g)
 
+and_yes : (a : Bool) → a && true ≡ a
+and_yes true = refl
+and_yes false = refl
+
+and_assoc : (a b c : Bool) → (a && b) && c ≡ a && (b && c)
+and_assoc true b c = refl
+and_assoc false b c = refl
+
 and_no : (a : Bool) → a && false ≡ false
 and_no true = refl
 and_no false = refl
@@ -132,3 +120,17 @@ pub every_ext : (f g : ℕ → Bool) (k : ℕ) → ((i : ℕ) → i < k → f i 
 unfolding every
 every_ext f g zero h = refl
 every_ext f g (suc k) h = ap₂ ◌&&◌ (every_ext f g k (λ i l. h i (omega arith))) (h k (omega arith))
+
+-- the test as an iterator makes it, over the numbers below k
+all_from : (f : ℕ → Bool) (i k : ℕ) → every f i && list_all f (range_with_len i k) ≡ every f (i + k)
+unfolding every
+all_from f i zero = rw add-zero (and_yes (every f i))
+all_from f i (suc k) =
+    let e : i + 1 ≡ suc i = omega arith in
+    let g : suc i + k ≡ i + suc k = omega arith in
+    sym (and_assoc (every f i) (f i) (list_all f (range_with_len (i + 1) k)))
+    ∙ ap (λ (j : ℕ). every f (suc i) && list_all f (range_with_len j k)) e ∙ all_from f (suc i) k ∙ ap (every f) g
+
+pub every_range : (f : ℕ → Bool) (k : ℕ) → list_all f (range_with_len 0 k) ≡ every f k
+unfolding every
+every_range f k = all_from f 0 k ∙ ap (every f) (zero-add k)

@@ -12,34 +12,25 @@ pub fn keep(x: u32, digit: u32) -> u32
 }
 
 // The first n words, or-ed.
+#[tactic(auto, unfolding(crate::specs::Tab::any_of))]
 pub fn any_of(words: &[u32], n: usize) -> u32
     requires { n ≤ length words.now }
     ensures { result ≡ any_of (λ i. get_or words.now i 0) n }
 {
     let mut any = 0u32;
-    for i in 0..n {
-        any = any | words[i];
+    for word in &words[..n] {
+        any |= *word;
     }
     any
 }
 
-// Copies words over out, which is as long.
-pub fn copy_over(out: &mut [u32], words: &[u32], n: usize)
-    requires { (n ≡ length out.old) × (n ≡ length words.now) }
-    ensures { out.new ≡ words.now }
-{
-    for u in 0..n {
-        out[u] = words[u];
-    }
-}
-
-// Sets the words of out to zero.
+// Sets the words of out to zero. `fill(0)` costs some 13 instructions more a call.
 pub fn zero_over(out: &mut [u32], n: usize)
     requires { n ≡ length out.old }
     ensures { out.new ≡ zeros n }
 {
-    for u in 0..n {
-        out[u] = 0;
+    for word in out.iter_mut() {
+        *word = 0;
     }
 }
 
@@ -51,28 +42,13 @@ pub fn zeroed<const N: usize>() -> [u32; N]
     [0; N]
 }
 
-// Thirty-two zeros: a function of its own, so that no proof writes them out.
-pub fn no_words() -> [u32; 32]
-    ensures { result ≡ zeros 32 }
-{
-    [0u32; 32]
-}
-
-// As many zeros as the largest table has words.
-pub fn no_times() -> [u32; 2048]
-    ensures { result ≡ zeros 2048 }
-{
-    [0u32; 2048]
-}
-
 // The n words of xs by value, and zeros up to 32.
+#[tactic(auto, unfolding(crate::specs::Tab::splice))]
 pub fn load(xs: &[u32], n: usize) -> [u32; 32]
     requires { (n ≤ 32) × (n ≡ length xs.now) }
     ensures { result ≡ splice 0 n xs.now (zeros 32) }
 {
-    let mut out = no_words();
-    for u in 0..n {
-        out[u] = xs[u];
-    }
+    let mut out = zeroed();
+    out[..n].copy_from_slice(xs);
     out
 }

@@ -2,12 +2,16 @@
 use mathlib.Core.Path.{◌≡◌}
 use mathlib.Core.Logic.{◌≢◌}
 use mathlib.Core.List.{List}
-use Prim.Native.Nat.{ℕ}
+use Prim.Native.Nat.{ℕ, zero-le}
+use lib.ListN.{take}
+use Rattle.lists.specs.Tab.{splice, zeros}
+use Rattle.lists.proofs.Splice.{read_inside}
+use Rattle.links.proofs.Ways.{length-within}
 use native.Mathlib.Omega.{arith}
 use borrow.Author.Tests.{eq-eqb, ne_eqb}
-use Rattle.links.specs.Tables.{intersection, union, compose, full, same}
+use Rattle.links.specs.Tables.{intersection, union, compose, within, full, same}
 use Rattle.times.specs.Times.{times_words}
-use Rattle.measures.specs.Kit.{size_of, own_of, join_of, pass_of}
+use Rattle.measures.specs.Kit.{size_of, own_of, join_of, pass_of, hops01}
 
 pub size_times : (measure n : ℕ) → measure ≡ 4 → size_of measure n ≡ times_words n
 unfolding size_of
@@ -39,3 +43,8 @@ pass-reach turn measure n f s t e = simp (ne_eqb measure 4 (λ g. omega arith), 
 pub pass-union : (turn measure n : ℕ) (f s t : List ℕ) → measure ≡ 2 → same n f (union n s t) ≡ pass_of turn measure n f (join_of measure n s t)
 unfolding pass_of join_of
 pass-union turn measure n f s t e = simp (ne_eqb measure 4 (λ g. omega arith), ne_eqb measure 3 (λ g. omega arith), eq-eqb measure 2 e)
+
+-- ---- the pairs joined within a pick, as code lends them
+
+pub lent_within : (n : ℕ) (w x : List ℕ) → x ≡ splice 0 n (within n hops01 w) (zeros 32) → take n x ≡ within n hops01 w
+lent_within n w x e = rw e (read_inside 0 n (within n hops01 w) (zeros 32) (length-within n hops01 w) zero-le)

@@ -45,6 +45,7 @@ pub fn compose(t: &mut [u32], right: &[u32], measure: usize, n: usize)
 }
 
 // The own table of measure 4: the pairs joined within the pick are worked out in a local table of links.
+#[tactic(auto, using(crate::proofs::Words::lent_within))]
 fn own_times(out: &mut [u32], words: &[u32], n: usize, pick: Pick)
     requires { (n ≤ 32) × ((pick.0 < 2 ^ 32) × ((times_words n ≡ length out.old) × (n ≡ length words.now))) }
     ensures { out.new ≡ own_times n pick.0 (within n hops01 words.now) }

@@ -1,21 +1,25 @@
 -- The test of a row by whole words, and the bits that it lacks. Assumes nothing.
 use mathlib.Core.Path.{◌≡◌, refl, sym, ap, ap₂, ◌∙◌}
+use mathlib.Core.Logic.{◌≢◌}
 use mathlib.Core.Bool.{Bool, true, false, ◌||◌, ◌&&◌, not}
 use mathlib.Core.List.{List}
-use Prim.Native.Nat.{ℕ, ◌-◌, ◌^◌, ◌≤◌, ◌<◌}
+use Prim.Native.Nat.{ℕ, ◌+◌, ◌-◌, ◌^◌, ◌≤◌, ◌<◌}
 use native.Mathlib.Omega.{arith}
 use lib.Bits.{bit_and, bit_or, and_le_l, or_lt}
 use lib.Count.{ones}
 use lib.Dec.{T, eqb, eqb→eq}
-use lib.ListN.{get_or}
+use lib.ListN.{take, get_or}
+use lib.Seq.{get_or-take, length-take-le}
+use borrow.Author.Tests.{ne_eqb}
+use Rattle.std.proofs.Common.{Fits, w32}
 use lib.Pow.{pow_pos, pow-lt}
 use Rattle.model.specs.Recording.{bit, link}
 use Rattle.model.proofs.Logic.{tr, T→≡, bool_ext, eq_refl}
 use Rattle.model.proofs.Bits.{bit-or, bit-and, bit-one, bit_complement}
 use Rattle.model.proofs.Ones.{bit_low, all_in, all_out}
-use Rattle.lists.specs.Tab.{every, how_many}
-use Rattle.lists.proofs.Tab.{every_in, every_out}
-use Rattle.lists.proofs.Many.{many_ext, ones_bits}
+use Rattle.lists.specs.Tab.{every, how_many, how_many_pairs}
+use Rattle.lists.proofs.Tab.{every_in, every_out, every_none, every-next, every_stop}
+use Rattle.lists.proofs.Many.{many_ext, ones_bits, pairs_none_yet, pairs_le, row_counted, one_bit}
 use Rattle.links.specs.Tables.{pair_full, row_full, pair_unmarked}
 
 -- the bits of a row with its own
@@ -58,3 +62,20 @@ row_unmarked n t u n32 h w =
     bit-and (2 ^ n - 1) z v
     ∙ ap₂ ◌&&◌ (T→≡ (bit (2 ^ n - 1) v) (bit_low n v l))
     (bit_complement 32 y v (or_lt 32 (get_or t u 0) (2 ^ u) w (pow-lt {j = 32} h)) (omega arith) ∙ ap not (own_bit (get_or t u 0) u v)))
+
+-- ---- a turn of the loops over the rows
+
+module _ (n : ℕ) (t : List ℕ) (u : ℕ) (h : u < n) (n32 : n ≤ 32) where
+  pub full_turn : every (row_full n t) u ≡ true → bit_and (bit_or (get_or (take n t) u 0) (2 ^ u)) (2 ^ n - 1) ≡ 2 ^ n - 1 → every (row_full n t) (u + 1) ≡ true
+  full_turn e q = every-next (row_full n t) u e (row-full n t u ∙ T→≡ _ (eq_refl (rw get_or-take at q)))
+
+  pub full_stop : (bit_and (bit_or (get_or (take n t) u 0) (2 ^ u)) (2 ^ n - 1) ≢ 2 ^ n - 1) → every (row_full n t) n ≡ false
+  full_stop q = every_stop (row_full n t) n u h (row-full n t u ∙ ne_eqb _ _ (rw get_or-take at q))
+
+  pub unmarked_turn : (k : ℕ) → k ≡ how_many_pairs (pair_unmarked t) n u → Fits w32 (get_or t u 0)
+      → k + ones (bit_and (2 ^ n - 1) (2 ^ 32 - 1 - bit_or (get_or (take n t) u 0) (2 ^ u))) ≡ how_many_pairs (pair_unmarked t) n (u + 1)
+  unmarked_turn k e a = rw get_or-take (row_counted (pair_unmarked t) n u e (row_unmarked n t u n32 (omega arith) (omega arith)))
+
+pub ruleset full_turns = (every_none, full_turn, full_stop, one_bit, length-take-le)
+
+pub ruleset unmarked_turns = (pairs_none_yet, pairs_le, unmarked_turn, one_bit, length-take-le)

@@ -14,7 +14,8 @@ use lib.ListN.{get_or}
 use lib.Pow.{pow_pos, ones_lt}
 use Rattle.model.specs.Recording.{bit, link}
 use Rattle.model.specs.Journey.{most_links}
-use Rattle.model.proofs.Logic.{tr, bool_ext, or_l, or_r, or_cases, and_both, and_l, and_r, not_in, not_out, ne_eqb, eq_or, eq_refl}
+use borrow.Author.Tests.{ne_eqb as not_equal}
+use Rattle.model.proofs.Logic.{tr, T→≡, bool_ext, or_l, or_r, or_cases, and_both, and_l, and_r, not_in, not_out, ne_eqb, eq_or, eq_refl}
 use Rattle.model.proofs.Bits.{bit_zero, bit_suc, bit_high, bit-or, bit-and, bit-one}
 use Rattle.model.proofs.Ones.{bit_low, all_in, all_out}
 use Rattle.lists.specs.Tab.{kept}
@@ -73,11 +74,6 @@ collect-step t s k u =
 
     row : ℕ
     row = get_or t k 0
-
--- a turn of the loop
-pub collect-next : (t : List ℕ) (s k : ℕ) → collect t s (k + 1) ≡ bit_or (collect t s k) (leading s (get_or t k 0) k)
-unfolding collect
-collect-next t s k = rw add-one
 
 collect_grow : (t : List ℕ) (s k u : ℕ) → T (bit s u) → T (bit (collect t s k) u)
 unfolding collect
@@ -272,6 +268,28 @@ module _ {back : Bool} {n s k : ℕ} {t : List ℕ} (n32 : n ≤ 32) (m : Seen b
       (λ e. eq_refl (all_in n s (λ v h. ⊎_elim (λ (z : ◌≡◌ {A = ℕ} 0 v). subst (λ (x : ℕ). T (bit s x)) z m.first)
       (λ (q : (c : ℕ) × (c ≤ most_links) × Away back n t c v). m.far q.0 v h (le_trans q.1 l) q.2)
       (down back n t v n32 h (every_out (side_pair back (within n most_links t)) n e v h)))))
+
+  pub seen_full : bit_and s (2 ^ n - 1) ≡ 2 ^ n - 1 → side_full back n (within n most_links t) ≡ true
+  seen_full e = T→≡ (side_full back n (within n most_links t)) (seen_all e)
+
+-- a turn that finds no more ends it
+pub seen_stop : {n s k : ℕ} {t : List ℕ} → n ≤ 32 → Seen true n t s k → collect t s n ≡ s → (bit_and s (2 ^ n - 1) ≢ 2 ^ n - 1)
+    → side_full true n (within n most_links t) ≡ false
+seen_stop n32 m e ne =
+    sym (seen_end n32 (seen_stays e m most_links) (omega arith)) ∙ not_equal _ _ ne
+
+-- the same onward: it has all boards once the links of w are followed
+pub gone_full : {n s rest : ℕ} {t : List ℕ} (w : ℕ) → n ≤ 32 → Gone n t s rest → T (bit (bit_and s rest) w)
+    → bit_and (bit_or s (get_or t w 0)) (2 ^ n - 1) ≡ 2 ^ n - 1 → side_full false n (within n most_links t) ≡ true
+gone_full w n32 m b e = seen_full n32 (gone_seen (gone_next w n32 m b)) e
+
+pub gone_stop : {n s rest : ℕ} {t : List ℕ} → n ≤ 32 → Gone n t s rest → bit_and s rest ≡ 0
+    → eqb (bit_and s (2 ^ n - 1)) (2 ^ n - 1) ≡ side_full false n (within n most_links t)
+gone_stop n32 m e = seen_end n32 (gone_end m e) (le_refl most_links)
+
+pub ruleset onward_turns = (gone_start, gone_below, gone_next, gone_less, gone_full, gone_stop)
+
+pub ruleset backward_turns = (seen_start, seen_next, seen_full, seen_stop, seen_end)
 
 -- THEOREM. Links lead from every board to every other exactly when they lead from board 0 to all and from all to board 0.
 pub full_first : (n : ℕ) (t : List ℕ) → n ≤ 32

@@ -9,13 +9,14 @@ ghost use Rattle.searches.specs.Search.{leading, collect, side_full};
 use model::Board;
 
 // Whether every ordered pair of different boards is marked: a row and its own bit have the bits of all boards.
+#[tactic(auto, using(crate::proofs::Full::full_turns), unfolding(links::specs::Tables::full))]
 pub fn is_full(t: &[u32], n: usize) -> bool
     requires { (n ≤ 32) × (n ≤ length t.now) }
     ensures { result ≡ full n t.now }
 {
     let all = links::low_bits(n);
-    for u in 0..n {
-        if (t[u] | (1u32 << u)) & all != all {
+    for (u, row) in t[..n].iter().enumerate() {
+        if (*row | (1u32 << u)) & all != all {
             return false;
         }
     }
@@ -23,14 +24,15 @@ pub fn is_full(t: &[u32], n: usize) -> bool
 }
 
 // How many ordered pairs of different boards are not marked: of each row the boards that it lacks, but for its own.
+#[tactic(auto, using(crate::proofs::Full::unmarked_turns), unfolding(links::specs::Tables::unmarked))]
 pub fn unmarked(t: &[u32], n: usize) -> u32
     requires { (n ≤ 32) × (n ≤ length t.now) }
     ensures { result ≡ unmarked n t.now }
 {
     let all = links::low_bits(n);
     let mut k = 0u32;
-    for u in 0..n {
-        k += u32::count_ones(all & !(t[u] | (1u32 << u)));
+    for (u, row) in t[..n].iter().enumerate() {
+        k += (all & !(*row | (1u32 << u))).count_ones();
     }
     k
 }
@@ -39,6 +41,7 @@ pub fn unmarked(t: &[u32], n: usize) -> u32
 
 // Whether links lead from board 0 to every other. `rest` has the boards whose links were not followed yet; the search ends when it has all
 // boards or has followed the links of all that it has.
+#[tactic(auto, using(crate::proofs::Search::onward_turns))]
 fn reaches_all(t: &[u32], n: usize) -> bool
     requires { (n ≤ 32) × (n ≤ length t.now) }
     ensures { result ≡ side_full false n (within n most_links t.now) }
@@ -46,9 +49,10 @@ fn reaches_all(t: &[u32], n: usize) -> bool
     let all = links::low_bits(n);
     let mut s = 1u32;
     let mut rest = all;
+    // No iterator: the set grows on the way.
     while s & rest != 0 {
         let w = links::board_in(s & rest);
-        s = s | t[w];
+        s |= t[w];
         if s & all == all {
             return true;
         }
@@ -58,6 +62,7 @@ fn reaches_all(t: &[u32], n: usize) -> bool
 }
 
 // Board b, where its row leads to one of s.
+#[tactic(auto, unfolding(crate::specs::Search::leading))]
 fn board_to(s: u32, row: u32, b: Board) -> u32
     requires { b.0 < 32 }
     ensures { result ≡ leading s row b.0 }
@@ -67,25 +72,27 @@ fn board_to(s: u32, row: u32, b: Board) -> u32
 }
 
 // The boards of seen, and those that a link leads from to one of them.
+#[tactic(auto, using(std::proofs::lemmas::Grind::common_steps), unfolding(crate::specs::Search::collect))]
 fn backward(t: &[u32], seen: u32, n: usize) -> u32
     requires { (n ≤ 32) × (n ≤ length t.now) }
     ensures { result ≡ collect t.now seen n }
 {
     let mut s = seen;
-    for w in 0..n {
-        s = s | board_to(seen, t[w], Board(w));
+    for (w, row) in t[..n].iter().enumerate() {
+        s |= board_to(seen, *row, Board(w));
     }
     s
 }
 
 // Whether links lead from every other board to board 0. The search ends when it has all boards or a turn finds no more; 32 turns are enough.
+#[tactic(auto, using(crate::proofs::Search::backward_turns))]
 fn all_reach(t: &[u32], n: usize) -> bool
     requires { (n ≤ 32) × (n ≤ length t.now) }
     ensures { result ≡ side_full true n (within n most_links t.now) }
 {
     let all = links::low_bits(n);
     let mut s = 1u32;
-    for k in 0..32usize {
+    for _turn in 0..32usize {
         if s & all == all {
             return true;
         }
@@ -99,12 +106,10 @@ fn all_reach(t: &[u32], n: usize) -> bool
 }
 
 // Whether links of the table lead from every board to every other: to board 0, and from there on.
+#[tactic(auto, using(crate::proofs::Search::full_first), unfolding(links::specs::Tables::connected))]
 pub fn is_connected(t: &[u32], n: usize) -> bool
     requires { (n ≤ 32) × (n ≡ length t.now) }
     ensures { result ≡ connected n t.now }
 {
-    if !reaches_all(t, n) {
-        return false;
-    }
-    all_reach(t, n)
+    reaches_all(t, n) && all_reach(t, n)
 }

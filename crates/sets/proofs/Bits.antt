@@ -18,7 +18,8 @@ use lib.Seq.{get_or-take, get_or-drop}
 use Rattle.model.specs.Recording.{bit}
 use Rattle.times.specs.Times.{cell}
 use Rattle.lists.specs.Tab.{tab, kept, zeros, any_of}
-use Rattle.lists.proofs.Tab.{get_or-tab, tab_ext, tab_zero}
+use Rattle.lists.proofs.Many.{one_bit}
+use Rattle.lists.proofs.Tab.{get_or-tab, tab_ext, tab_zero, made_all}
 use Rattle.sets.specs.Marks.{mark_of, marks, some_of, set_of, marked_row, own_row}
 
 -- ---- the same of a lent row as of the table
@@ -139,3 +140,6 @@ marks_lt f n (suc k) h = or_lt n (marks f k) (mark_of (f k) k) (marks_lt f n k (
 pub set_lt : (f : ℕ → ℕ) (n : ℕ) (t : List ℕ) (u : ℕ) → set_of f n (some_of n t) u < 2 ^ n
 unfolding set_of some_of
 set_lt f n t u = lt_of_le_of_lt (and_le_r (bit_or (marks f n) (2 ^ u)) (marks (λ w. any_of (cell n t w) n) n)) (marks_lt _ n n (le_refl n))
+
+-- what the loop that adds own boards stands on
+pub ruleset own_turns = (one_bit, made_all)

@@ -9,6 +9,7 @@ ghost use Rattle.sets.specs.Marks.{mark_of, marks, some_of, set_of, marked_row, 
 use model::Board;
 
 // Bit b, where x is a time.
+#[tactic(auto, using(lists::proofs::Many::one_bit), unfolding(crate::specs::Marks::mark_of))]
 fn mark_of(x: u32, b: Board) -> u32
     requires { b.0 < 32 }
     ensures { result ≡ mark_of x b.0 }
@@ -18,31 +19,35 @@ fn mark_of(x: u32, b: Board) -> u32
 }
 
 // The boards at which the row has a time.
+#[tactic(auto, using(std::proofs::lemmas::Grind::common_steps), unfolding(crate::specs::Marks::marks))]
 fn row_marks(row: &[u32], n: usize) -> u32
     requires { (n ≤ 32) × (n ≤ length row.now) }
     ensures { result ≡ marks (λ v. get_or row.now v 0) n }
 {
     let mut set = 0u32;
-    for v in 0..n {
-        set = set | mark_of(row[v], Board(v));
+    for (v, x) in row[..n].iter().enumerate() {
+        set |= mark_of(*x, Board(v));
     }
     set
 }
 
 // The boards whose row holds a time.
+#[tactic(auto, unfolding(crate::specs::Marks::some_of, crate::specs::Marks::marks))]
 pub fn some_rows(half: &[u32], n: usize) -> u32
     requires { (n ≤ 32) × (n * n ≤ length half.now) }
     ensures { result ≡ some_of n half.now }
 {
     let mut set = 0u32;
+    // By number here and below: `chunks_exact` wants n above 0, and costs 2 per cent more instructions.
     for w in 0..n {
         let at = w * n;
-        set = set | mark_of(lists::any_of(&half[at..at + n], n), Board(w));
+        set |= mark_of(lists::any_of(&half[at..at + n], n), Board(w));
     }
     set
 }
 
 // What a row takes from the later table: the rows of the boards that it reaches, and of the board itself, but for those without a time.
+#[tactic(auto, using(lists::proofs::Many::one_bit), unfolding(crate::specs::Marks::set_of))]
 fn set_of(row: &[u32], n: usize, some: u32, own: Board) -> u32
     requires { (n ≤ 32) × ((own.0 < 32) × (n ≤ length row.now)) }
     ensures { result ≡ set_of (λ v. get_or row.now v 0) n some own.0 }
@@ -52,25 +57,27 @@ fn set_of(row: &[u32], n: usize, some: u32, own: Board) -> u32
 }
 
 // The sets of all rows.
+#[tactic(auto, using(lists::proofs::Tab::made_all))]
 pub fn write(sets: &mut [u32], half: &[u32], n: usize, some: u32)
     requires { (n ≤ 32) × ((n ≡ length sets.old) × (n * n ≤ length half.now)) }
     ensures { sets.new ≡ tab (λ u. set_of (cell n half.now u) n some u) n }
 {
-    for u in 0..n {
+    for (u, set) in sets.iter_mut().enumerate() {
         let at = u * n;
-        sets[u] = set_of(&half[at..at + n], n, some, Board(u));
+        *set = set_of(&half[at..at + n], n, some, Board(u));
     }
 }
 
 // ---- the sets of columns
 
 // Board b goes into the set of each board at which its row has a time.
+#[tactic(auto, using(lists::proofs::Tab::made_all), unfolding(crate::specs::Marks::marked_row))]
 fn add_marks(sets: &mut [u32], row: &[u32], n: usize, b: Board)
     requires { (b.0 < 32) × ((n ≡ length sets.old) × (n ≤ length row.now)) }
     ensures { sets.new ≡ tab (marked_row sets.old (λ v. get_or row.now v 0) b.0) n }
 {
-    for v in 0..n {
-        sets[v] = sets[v] | mark_of(row[v], b);
+    for (v, set) in sets.iter_mut().enumerate() {
+        *set |= mark_of(row[v], b);
     }
 }
 
@@ -86,12 +93,13 @@ fn column_marks(sets: &mut [u32], half: &[u32], n: usize)
 }
 
 // Each set with its own board, but for those that are not in some.
+#[tactic(auto, using(crate::proofs::Bits::own_turns), unfolding(crate::specs::Marks::own_row))]
 fn with_own(sets: &mut [u32], n: usize, some: u32)
     requires { (n ≤ 32) × (n ≡ length sets.old) }
     ensures { sets.new ≡ tab (own_row sets.old some) n }
 {
-    for u in 0..n {
-        sets[u] = (sets[u] | (1u32 << u)) & some;
+    for (u, set) in sets.iter_mut().enumerate() {
+        *set = (*set | (1u32 << u)) & some;
     }
 }
 
@@ -113,10 +121,8 @@ pub fn first_same(sets: &[u32], u: usize) -> usize
     ensures { (result ≤ u) × (get_or sets.now result 0 ≡ get_or sets.now u 0) }
 {
     let set = sets[u];
-    for k in 0..u {
-        if sets[k] == set {
-            return k;
-        }
-    }
-    u
+    sets[..u]
+        .iter()
+        .position(|other| *other == set)
+        .unwrap_or(u)
 }

@@ -4,4 +4,4 @@ pub mod Rows
 pub mod Pairs
 pub mod Times
 pub mod Unmet
-pub mod Twice
+pub mod OwnRow

@@ -1,12 +1,12 @@
 -- The test of a table, and the count of the pairs out of time, with each pair of boards looked at once. Assumes nothing.
-use Rattle.std.proofs.Common.{◌≡◌, ℕ, zero, suc, ◌+◌, ◌*◌, ◌%◌, ◌^◌, ◌<◌, ◌≤◌, Bool, true, false, cond, not, ◌&&◌, T, eqb, ltb, leb, ◌≢◌, ◌↔◌, List, get_or, sym, refl, ap, ◌∙◌, ⊎_elim, mod-eq_of_lt, suc-add, add-one, arith, get_or-drop, le-ltb, ne_eqb}
+use Rattle.std.proofs.Common.{◌≡◌, ℕ, zero, suc, ◌+◌, ◌*◌, ◌%◌, ◌^◌, ◌<◌, ◌≤◌, Bool, true, false, cond, not, ◌&&◌, T, eqb, ltb, leb, ◌≢◌, ◌↔◌, List, get_or, take, drop, sym, refl, ap, ◌∙◌, ⊎_elim, mod-eq_of_lt, suc-add, add-one, arith, get_or-take, le-ltb, ne_eqb}
 use lib.Dec.{eqb-suc-zero}
 use Rattle.model.specs.Journey.{val}
 use Rattle.model.proofs.Bits.{val_le}
 use Rattle.model.proofs.Logic.{T→≡, bool_ext, and_both, and_l, and_r, eq_or, eq_refl, or_l, le_or_lt}
 use Rattle.lists.specs.Tab.{every, how_many, how_many_pairs}
 use Rattle.lists.proofs.Tab.{every_out, every_in}
-use Rattle.lists.proofs.Many.{many_next, many_le, pairs_next, pairs_le}
+use Rattle.lists.proofs.Many.{many_next, many_le, pairs_none_yet, pairs_next, pairs_le}
 use Rattle.times.proofs.Rows.{cell_lt, half_few}
 use Rattle.times.specs.Times.{in_time, row_in_time, all_in_time, not_in_time}
 use Rattle.times.specs.Pairs.{no_later, pair_in_time, below_in_time, too_late, pair_out_of_time, below_out_of_time}
@@ -30,30 +30,28 @@ both_ways true true c d = refl
 both_ways true false true d = refl
 both_ways true false false d = refl
 
-module _ (n turn : ℕ) (t : List ℕ) (u v : ℕ) (below : v < u) where
-  pair_is : no_later turn (get_or t (u * n + v) 0) (get_or t (n * n + (v * n + u)) 0) && no_later turn (get_or t (v * n + u) 0) (get_or t (n * n + (u * n + v)) 0)
-      ≡ pair_in_time n turn t u v
-  unfolding no_later pair_in_time in_time
-  pair_is =
-      let x : ℕ = get_or t (u * n + v) 0 in
-      let y : ℕ = get_or t (v * n + u) 0 in
-      let a : Bool = not (eqb x 0) in
-      let b : Bool = not (eqb y 0) in
-      simp (ne_eqb u v (λ e. omega arith), ne_eqb v u (λ e. omega arith), get_or-drop)
-      (both_ways a b (leb (x + turn) (get_or t (n * n + (v * n + u)) 0)) (leb (y + turn) (get_or t (n * n + (u * n + v)) 0)))
-
-  -- the return at the first way round
-  pub pair_not : no_later turn (get_or t (u * n + v) 0) (get_or t (n * n + (v * n + u)) 0) ≡ false → false ≡ pair_in_time n turn t u v
-  pair_not e = rw e at pair_is
-
-  -- and at the second
-  pub pair_last : no_later turn (get_or t (u * n + v) 0) (get_or t (n * n + (v * n + u)) 0) ≡ true
-      → no_later turn (get_or t (v * n + u) 0) (get_or t (n * n + (u * n + v)) 0) ≡ pair_in_time n turn t u v
-  pair_last e = rw e at pair_is
-
 -- the words of a pair, and those of the way back, are within a half
 pub pair_lt : (n : ℕ) {u v : ℕ} → u < n → v < u → (u * n + v < n * n) × (v * n + u < n * n)
 pair_lt n {u} {v} h l = let k : v < n = omega arith in (cell_lt n h k, cell_lt n k h)
+
+-- a time of one half, and one of the other, as code reads them
+abbrev arrives : ℕ → List ℕ → ℕ → ℕ → ℕ
+arrives n t u v = get_or (take (n * n) t) (u * n + v) 0
+
+abbrev departs : ℕ → List ℕ → ℕ → ℕ → ℕ
+departs n t u v = get_or (drop (n * n) t) (u * n + v) 0
+
+pub pair_is : (n turn : ℕ) (t : List ℕ) (u v : ℕ) → u < n → v < u
+    → pair_in_time n turn t u v ≡ no_later turn (arrives n t u v) (departs n t v u) && no_later turn (arrives n t v u) (departs n t u v)
+unfolding no_later pair_in_time in_time
+pair_is n turn t u v h l =
+    let p = pair_lt n h l in
+    let x : ℕ = get_or t (u * n + v) 0 in
+    let y : ℕ = get_or t (v * n + u) 0 in
+    let a : Bool = not (eqb x 0) in
+    let b : Bool = not (eqb y 0) in
+    simp (ne_eqb u v (λ e. omega arith), ne_eqb v u (λ e. omega arith), get_or-take (n * n) t (u * n + v) 0 p.0, get_or-take (n * n) t (v * n + u) 0 p.1)
+    (sym (both_ways a b (leb (x + turn) (departs n t v u)) (leb (y + turn) (departs n t u v))))
 
 module _ (n turn : ℕ) (t : List ℕ) where
   pub own_in_time : (u v : ℕ) → u ≡ v → T (in_time n turn t u v)
@@ -98,20 +96,21 @@ both_counted true false c d = refl
 both_counted false true c d = refl
 both_counted false false c d = refl
 
-pub pair_counted : (n turn : ℕ) (t : List ℕ) (u v : ℕ) → v < u
-    → cond (eqb (get_or t (u * n + v) 0) 0) 2 (cond (eqb (get_or t (v * n + u) 0) 0) 2
-    (too_late turn (get_or t (u * n + v) 0) (get_or t (n * n + (v * n + u)) 0) + too_late turn (get_or t (v * n + u) 0) (get_or t (n * n + (u * n + v)) 0)))
+pub pair_counted : (n turn : ℕ) (t : List ℕ) (u v : ℕ) → u < n → v < u
+    → cond (eqb (arrives n t u v) 0) 2 (cond (eqb (arrives n t v u) 0) 2
+    (too_late turn (arrives n t u v) (departs n t v u) + too_late turn (arrives n t v u) (departs n t u v)))
     ≡ pair_out_of_time n turn t u v
 unfolding too_late pair_out_of_time not_in_time in_time
-pair_counted n turn t u v below =
+pair_counted n turn t u v h l =
+    let p = pair_lt n h l in
     let x : ℕ = get_or t (u * n + v) 0 in
     let y : ℕ = get_or t (v * n + u) 0 in
-    simp (ne_eqb u v (λ e. omega arith), ne_eqb v u (λ e. omega arith), get_or-drop)
-    (both_counted (eqb x 0) (eqb y 0) (leb (x + turn) (get_or t (n * n + (v * n + u)) 0)) (leb (y + turn) (get_or t (n * n + (u * n + v)) 0)))
+    simp (ne_eqb u v (λ e. omega arith), ne_eqb v u (λ e. omega arith), get_or-take (n * n) t (u * n + v) 0 p.0, get_or-take (n * n) t (v * n + u) 0 p.1)
+    (both_counted (eqb x 0) (eqb y 0) (leb (x + turn) (departs n t v u)) (leb (y + turn) (departs n t u v)))
 
-pub too_late_le : {k : ℕ} (turn x y : ℕ) → k ≡ too_late turn x y → k ≤ 1
+pub too_late_le : (turn x y : ℕ) → too_late turn x y ≤ 1
 unfolding too_late
-too_late_le turn x y e = omega (arith, val_le (not (leb (x + turn) y)))
+too_late_le turn x y = omega (arith, val_le (not (leb (x + turn) y)))
 
 -- one more column
 column_next : (f : ℕ → ℕ → Bool) (n k : ℕ) → how_many_pairs f (n + 1) k ≡ how_many_pairs f n k + how_many (λ u. f u n) k
@@ -125,25 +124,35 @@ square_next f k = omega (arith, pairs_next f (k + 1) k, column_next f k k, many_
 
 module _ (n turn : ℕ) (t : List ℕ) (u : ℕ) where
   -- the loop over the boards below u, and that its sum is a small word
-  pub below_none : 0 ≡ below_out_of_time n turn t u 0
+  pub below_none : below_out_of_time n turn t u 0 ≡ 0
   unfolding below_out_of_time how_many
   below_none = refl
 
-  pub below_next : (v : ℕ) {k x : ℕ} → k ≡ below_out_of_time n turn t u v → x ≡ pair_out_of_time n turn t u v → k + x ≡ below_out_of_time n turn t u (v + 1)
+  pub below_next : (v : ℕ) → below_out_of_time n turn t u (v + 1) ≡ below_out_of_time n turn t u v + pair_out_of_time n turn t u v
   unfolding below_out_of_time pair_out_of_time
-  below_next v e g = omega (arith, many_next (not_in_time n turn t u) v, many_next (λ v. not_in_time n turn t v u) v)
+  below_next v = omega (arith, many_next (not_in_time n turn t u) v, many_next (λ v. not_in_time n turn t v u) v)
 
-  pub below_small : (v : ℕ) {k : ℕ} → k ≡ below_out_of_time n turn t u v → v ≤ 32 → k ≤ 64
+  pub pair_small : (v : ℕ) → pair_out_of_time n turn t u v ≤ 2
+  unfolding pair_out_of_time
+  pair_small v = omega (arith, val_le (not_in_time n turn t u v), val_le (not_in_time n turn t v u))
+
+  pub below_small : (v : ℕ) → below_out_of_time n turn t u v ≤ v + v
   unfolding below_out_of_time
-  below_small v e h = omega (arith, many_le (not_in_time n turn t u) v, many_le (λ v. not_in_time n turn t v u) v)
+  below_small v = omega (arith, many_le (not_in_time n turn t u) v, many_le (λ v. not_in_time n turn t v u) v)
 
   -- the loop over u: the pairs of the boards below u, with those of u and one of them, are the pairs of the boards below u + 1
-  pub square_counted : {k x : ℕ} → k ≡ how_many_pairs (not_in_time n turn t) u u → x ≡ below_out_of_time n turn t u u
-      → k + x ≡ how_many_pairs (not_in_time n turn t) (u + 1) (u + 1)
+  pub square_counted : how_many_pairs (not_in_time n turn t) (u + 1) (u + 1) ≡ how_many_pairs (not_in_time n turn t) u u + below_out_of_time n turn t u u
   unfolding below_out_of_time not_in_time
-  square_counted e g =
+  square_counted =
       let own : val (not (in_time n turn t u u)) ≡ 0 = rw (T→≡ (in_time n turn t u u) (own_in_time n turn t u u refl)) in
       omega (arith, square_next (not_in_time n turn t) u)
 
-  pub square_small : {k : ℕ} → k ≡ how_many_pairs (not_in_time n turn t) u u → u ≤ 32 → k ≤ 1024
-  square_small e h = omega (arith, pairs_le (not_in_time n turn t) u u, half_few h)
+  pub square_small : u ≤ 32 → how_many_pairs (not_in_time n turn t) u u ≤ 1024
+  square_small h = omega (arith, pairs_le (not_in_time n turn t) u u, half_few h)
+
+-- what the functions that test and count stand on
+pub ruleset pair_tests = (pair_is, pair_counted, too_late_le)
+
+pub ruleset below_turns = (below_none, below_next, below_small, pair_small)
+
+pub ruleset square_turns = (pairs_none_yet, square_counted, square_small, below_small)

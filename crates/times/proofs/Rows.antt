@@ -1,11 +1,12 @@
 -- Laws of tables in rows, the invariant of the loops that write them row by row, and what the loops over a row make. Assumes nothing.
-use Rattle.std.proofs.Common.{◌≡◌, ℕ, ◌+◌, ◌-◌, ◌*◌, ◌<◌, ◌≤◌, Bool, true, false, cond, eqb, List, ◌++◌, length, get_or, take, drop, set, sym, refl, ap, ◌∙◌, zero-le, le_of_eq, mul-le-mul_right, suc-mul, mul-le-mul, zero-mul, add-one, arith, length-drop, length-set, length-take-le, take_all, get_or-set_other, get_or-set_same, ext_get_or, drop_at, eqb-true}
-use native.Mathlib.Nat.{sub-zero, add-sub_cancel_left}
+use Rattle.std.proofs.Common.{zero-mul, ◌≡◌, ℕ, ◌+◌, ◌-◌, ◌*◌, ◌<◌, ◌≤◌, Bool, true, false, cond, eqb, List, ◌++◌, length, get_or, take, drop, set, sym, refl, ◌∙◌, le_of_eq, mul-le-mul_right, suc-mul, mul-le-mul, add-one, arith, length-drop, length-set, length-take-le, take_all, get_or-set_other, get_or-set_same, ext_get_or, drop_at, eqb-true, [], append_assoc}
+use lib.Seq.{take_at, drop-drop}
+use native.Mathlib.Nat.{add-sub_cancel_left}
 use borrow.Author.Tests.{eqb-false}
 use Rattle.lists.specs.Tab.{tab, splice}
-use Rattle.lists.proofs.Splice.{splice-length, splice-after, splice-more, splice_none, splice_whole, written-part, written_first}
+use Rattle.lists.proofs.Splice.{written-part}
 use Rattle.lists.proofs.Tab.{length-tab, get_or-tab}
-use Rattle.times.specs.Times.{rows, times_words, apart}
+use Rattle.times.specs.Times.{rows, apart}
 use Rattle.times.proofs.Cells.{length-rows}
 
 -- ---- places
@@ -33,55 +34,31 @@ from_start m xs = take_all (length xs - m) (drop m xs) (le_of_eq (length-drop m 
 -- ---- rows
 
 -- The invariant of a loop that writes n rows of n words: t is t₀ with f's rows below u.
--- A function's `invariant-loop-x` is a `Rowed`; `rowed_start`, `rowed_turn` and `rowed_all` answer its goals.
-pub record Rowed (n : ℕ) (f : ℕ → ℕ → ℕ) (t₀ t : List ℕ) (u : ℕ) : Type 0 where
-  pub size : n * n ≡ length t₀
-  pub low : u ≤ n
-  pub long : length t ≡ n * n
-  pub made : t ≡ splice 0 (u * n) (rows n f u) t₀
+abbrev pub Rowed : ℕ → (ℕ → ℕ → ℕ) → List ℕ → List ℕ → ℕ → Type 0
+Rowed n f t₀ t u = t ≡ rows n f u ++ drop (u * n) t₀
 
-pub rowed_start : {n : ℕ} {f : ℕ → ℕ → ℕ} {t₀ : List ℕ} → n * n ≡ length t₀ → Rowed n f t₀ t₀ 0
+pub rows_none : (n : ℕ) (f : ℕ → ℕ → ℕ) → rows n f 0 ≡ []
 unfolding rows
-rowed_start {n} {f} {t₀} e = record { size = e; low = zero-le; long = sym e; made = rw zero-mul (splice_none 0 t₀) }
+rows_none n f = refl
 
-module _ {n : ℕ} {f : ℕ → ℕ → ℕ} {t₀ t : List ℕ} {u : ℕ} (m : Rowed n f t₀ t u) where
-  -- what the loop has not reached is as it was
-  pub rowed_read : drop (u * n) t ≡ drop (u * n) t₀
-  rowed_read = rw m.made (splice-after 0 (u * n) (rows n f u) t₀ (length-rows n f u) zero-le (u * n) (omega arith))
+pub rowed_start : (n : ℕ) (f : ℕ → ℕ → ℕ) (t₀ : List ℕ) → Rowed n f t₀ t₀ 0
+rowed_start n f t₀ = rw (rows_none n f, zero-mul n) refl
 
-  -- a turn: row u is written
-  pub rowed_turn : {s : List ℕ} → u < n → s ≡ splice (u * n) n (tab (f u) n) t → Rowed n f t₀ s (u + 1)
-  unfolding rows
-  rowed_turn {s} h q =
-      let r : u * n + n ≤ length t = omega (arith, m.long, suc-mul u n, mul-le-mul_right n h) in
-      record {
-        size = m.size;
-        low = omega arith;
-        long = ap length q ∙ splice-length (u * n) n (tab (f u) n) t (length-tab (f u) n) (omega arith) r ∙ m.long;
-        made =
-            q ∙ rw (m.made, add-one, suc-mul)
-            (splice-more 0 (u * n) (rows n f u) t₀ (length-rows n f u) zero-le (u * n) n (tab (f u) n) (omega arith));
-      }
+-- what the loop has not reached is as it was
+pub rowed_read : (n u : ℕ) (f : ℕ → ℕ → ℕ) (t₀ t : List ℕ) → Rowed n f t₀ t u → drop (u * n) t ≡ drop (u * n) t₀
+rowed_read n u f t₀ t e = rw e (drop_at (rows n f u) (drop (u * n) t₀) (u * n) (length-rows n f u))
 
-  -- the loop's end
-  pub rowed_all : n ≤ u → t ≡ rows n f n
-  rowed_all h =
-      let q : u ≡ n = omega (arith, m.low) in
-      m.made ∙ rw q (splice_whole (n * n) (rows n f n) t₀ (omega (arith, m.size)))
+-- a turn: row u is lent and written
+pub rowed_turn : (n u : ℕ) (f : ℕ → ℕ → ℕ) (t₀ t row : List ℕ) → Rowed n f t₀ t u → row ≡ tab (f u) n
+    → take (u * n) t ++ (row ++ drop (u * n + n - u * n) (drop (u * n) t)) ≡ rows n f (u + 1) ++ drop ((u + 1) * n) t₀
+unfolding rows
+rowed_turn n u f t₀ t row e q =
+    rw (rowed_read n u f t₀ t e, add-sub_cancel_left, add-one, suc-mul, drop-drop, q, e, take_at (rows n f u) (drop (u * n) t₀) (u * n) (length-rows n f u), append_assoc)
 
--- two halves of rows, lent and written one after the other over all of xs
-pub halves : (n : ℕ) (f g : ℕ → ℕ → ℕ) (a b xs : List ℕ) → times_words n ≡ length xs → a ≡ rows n f n → b ≡ rows n g n
-    → take (n * n) (a ++ drop (n * n - 0) xs) ++ (b ++ drop (n * n + n * n - n * n) (drop (n * n) (a ++ drop (n * n - 0) xs))) ≡ rows n f n ++ rows n g n
-halves n f g a b xs e p q =
-    let m = n * n in
-    written-part m m _ q
-    ∙ ap (splice m m (rows n g n)) (written_first m xs p)
-    ∙ splice-more 0 m (rows n f n) xs (length-rows n f n) zero-le m m (rows n g n) (omega arith)
-    ∙ splice_whole (m + m) (rows n f n ++ rows n g n) xs (omega arith)
-
--- the second half, as it is lent when the first was written
-pub half_left : (m : ℕ) (a xs : List ℕ) → m + m ≡ length xs → m ≡ length a → take (m + m - m) (drop m (a ++ drop (m - 0) xs)) ≡ drop m xs
-half_left m a xs e l = rw (sub-zero, add-sub_cancel_left, drop_at a _ m (sym l)) (take_all m (drop m xs) (omega (arith, length-drop m xs)))
+-- the same, where it is put in its place
+pub rowed_put : (n u : ℕ) (f : ℕ → ℕ → ℕ) (t₀ t : List ℕ) → Rowed n f t₀ t u
+    → splice (u * n) n (tab (f u) n) t ≡ rows n f (u + 1) ++ drop ((u + 1) * n) t₀
+rowed_put n u f t₀ t e = sym (written-part (u * n) n t refl) ∙ rowed_turn n u f t₀ t (tab (f u) n) e refl
 
 -- ---- one row
 

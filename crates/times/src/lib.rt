@@ -6,7 +6,7 @@
 ghost use Rattle.std.specs.Prelude.{◌≡◌, ◌+◌, ◌*◌, ◌^◌, ◌<◌, ◌≤◌, length, if◌then◌else◌, bit_and, nat_eq};
 ghost use Rattle.lists.specs.Tab.{tab};
 ghost use Rattle.times.specs.Times.{times_words, own_times, all_in_time, out_of_time};
-ghost use Rattle.times.specs.Own.{board_bit, own_word, Twice, OwnRow};
+ghost use Rattle.times.specs.Own.{board_bit, own_word};
 ghost use Rattle.times.specs.Pairs.{no_later, pair_in_time, below_in_time, too_late, pair_out_of_time, below_out_of_time};
 
 use model::{Board, Pick};
@@ -26,11 +26,7 @@ pub fn words(n: usize) -> usize
 fn board_bits() -> [u32; 32]
     ensures { result ≡ tab board_bit 32 }
 {
-    let mut bits = lists::no_words();
-    for v in 0..32usize {
-        bits[v] = 1u32 << v;
-    }
-    bits
+    std::array::from_fn(|v| 1u32 << v)
 }
 
 // The pick where the word has the bit, else none: a select.
@@ -40,47 +36,46 @@ fn own_time(word: u32, bit: u32, pick: u32) -> u32
     if word & bit == 0 { 0 } else { pick }
 }
 
-// Row u of a pick's own table, in both halves: their words are the same.
-fn own_row(out: &mut [u32], bits: &[u32], joined: &[u32], n: usize, from: Board, pick: Pick)
-    requires { OwnRow n pick.0 joined.now bits.now from.0 out.old }
-    ensures { Twice (n * n) (own_word n pick.0 joined.now) out.new (from.0 * n + n) }
+// A row of a pick's own table, from the word of its board.
+#[tactic(auto, using(crate::proofs::OwnRow::own_rows))]
+fn own_row(row: &mut [u32], bits: &[u32], word: u32, pick: u32)
+    requires { (bits.now ≡ tab board_bit 32) × (length row.old ≤ 32) }
+    ensures { row.new ≡ tab (own_word pick word) (length row.old) }
 {
-    let u = from.0;
-    let word = joined[u];
-    let p = pick.0 as u32;
-    let at = u * n;
-    let m = n * n;
-    for v in 0..n {
-        let x = own_time(word, bits[v], p);
-        let i = at + v;
-        out[i] = x;
-        out[m + i] = x;
+    for (v, x) in row.iter_mut().enumerate() {
+        *x = own_time(word, bits[v], pick);
     }
 }
 
 // Writes over out the own table of a pick, where joined marks the pairs joined within it: its number for each of them, in both halves.
+#[tactic(auto, using(crate::proofs::OwnRow::own_turns), unfolding(crate::specs::Times::own_times))]
 pub fn own(out: &mut [u32], joined: &[u32], n: usize, pick: Pick)
     requires { (n ≤ 32) × ((pick.0 < 2 ^ 32) × ((times_words n ≡ length out.old) × (n ≤ length joined.now))) }
     ensures { out.new ≡ own_times n pick.0 joined.now }
 {
-    let p = pick.0;
+    let p = pick.0 as u32;
     let bits = board_bits();
-    for u in 0..n {
-        own_row(out, &bits[0..n], joined, n, Board(u), Pick(p));
+    for (u, word) in joined[..n].iter().enumerate() {
+        let at = u * n;
+        own_row(&mut out[at..at + n], &bits, *word, p);
     }
+    let (arrivals, departures) = out.split_at_mut(n * n);
+    departures.copy_from_slice(arrivals);
 }
 
 // ---- test
 
 // Whether x is a time, and y is `turn` or more after it. No time, 0, less 1 is the greatest word, so that one comparison asks both. The sum is one of
 // 64 bits: it wraps for no x and no turn.
+#[tactic(auto, using(crate::proofs::Pairs::no_later_is))]
 fn no_later(x: u32, y: u32, turn: u32) -> bool
     ensures { result ≡ no_later turn x y }
 {
-    std::num::wrapping_sub_u32(x, 1) as usize + (turn as usize) < y as usize
+    x.wrapping_sub(1) as usize + (turn as usize) < y as usize
 }
 
 // Whether light goes from a to b and back within the table, and from b to a and back: the way back departs `turn` picks or more after the arrival.
+#[tactic(auto, using(crate::proofs::Pairs::pair_tests))]
 fn pair_in_time(t: &[u32], n: usize, turn: u32, a: Board, b: Board) -> bool
     requires { (n ≤ 32) × ((a.0 < n) × ((b.0 < a.0) × (times_words n ≤ length t.now))) }
     ensures { result ≡ pair_in_time n turn t.now a.0 b.0 }
@@ -89,11 +84,9 @@ fn pair_in_time(t: &[u32], n: usize, turn: u32, a: Board, b: Board) -> bool
     let v = b.0;
     let there = u * n + v;
     let back = v * n + u;
-    let half = n * n;
-    if !no_later(t[there], t[half + back], turn) {
-        return false;
-    }
-    no_later(t[back], t[half + there], turn)
+    let (arrivals, departures) = t.split_at(n * n);
+    no_later(arrivals[there], departures[back], turn)
+        && no_later(arrivals[back], departures[there], turn)
 }
 
 // Whether a board is in time with each board below it.
@@ -102,12 +95,7 @@ fn row_in_time(t: &[u32], n: usize, turn: u32, from: Board) -> bool
     ensures { result ≡ below_in_time n turn t.now from.0 }
 {
     let u = from.0;
-    for v in 0..u {
-        if !pair_in_time(t, n, turn, Board(u), Board(v)) {
-            return false;
-        }
-    }
-    true
+    (0..u).all(|v| pair_in_time(t, n, turn, Board(u), Board(v)))
 }
 
 // Whether each pair of boards is in time, with `turn` picks to turn round in. A pair is looked at once, for both ways round.
@@ -115,38 +103,28 @@ pub fn in_time(t: &[u32], n: usize, turn: u32) -> bool
     requires { (n ≤ 32) × (times_words n ≤ length t.now) }
     ensures { result ≡ all_in_time n turn t.now }
 {
-    for u in 0..n {
-        if !row_in_time(t, n, turn, Board(u)) {
-            return false;
-        }
-    }
-    true
+    (0..n).all(|u| row_in_time(t, n, turn, Board(u)))
 }
 
 // ---- how many are out of time
 
 // 1 where the departure is not `turn` or more after the arrival. The sum is one of 64 bits: it wraps for no words.
+#[tactic(auto, unfolding(crate::specs::Pairs::too_late))]
 fn too_late(arrival: u32, departure: u32, turn: u32) -> u32
     ensures { result ≡ too_late turn arrival departure }
 {
-    if (departure as usize) < arrival as usize + (turn as usize) {
-        1
-    } else {
-        0
-    }
+    u32::from((departure as usize) < arrival as usize + (turn as usize))
 }
 
 // Both ways round where an arrival is none, else those that are late. All is at hand, so that these are selects.
 fn unless_none(x: u32, y: u32, ways: u32) -> u32
     ensures { result ≡ (if nat_eq x 0 then 2 else (if nat_eq y 0 then 2 else ways)) }
 {
-    if x == 0 {
-        return 2;
-    }
-    if y == 0 { 2 } else { ways }
+    if x == 0 || y == 0 { 2 } else { ways }
 }
 
 // How many of the two ways round of a and b are out of time: from a to b and back, and from b to a and back.
+#[tactic(auto, using(crate::proofs::Pairs::pair_tests))]
 fn pair_out_of_time(t: &[u32], n: usize, turn: u32, a: Board, b: Board) -> u32
     requires { (n ≤ 32) × ((a.0 < n) × ((b.0 < a.0) × (times_words n ≤ length t.now))) }
     ensures { result ≡ pair_out_of_time n turn t.now a.0 b.0 }
@@ -155,14 +133,15 @@ fn pair_out_of_time(t: &[u32], n: usize, turn: u32, a: Board, b: Board) -> u32
     let v = b.0;
     let there = u * n + v;
     let back = v * n + u;
-    let departures = n * n;
-    let x = t[there];
-    let y = t[back];
-    let ways = too_late(x, t[departures + back], turn) + too_late(y, t[departures + there], turn);
+    let (arrivals, departures) = t.split_at(n * n);
+    let x = arrivals[there];
+    let y = arrivals[back];
+    let ways = too_late(x, departures[back], turn) + too_late(y, departures[there], turn);
     unless_none(x, y, ways)
 }
 
 // The same, of a board with all boards below it.
+#[tactic(auto, using(crate::proofs::Pairs::below_turns))]
 fn row_out_of_time(t: &[u32], n: usize, turn: u32, from: Board) -> u32
     requires { (n ≤ 32) × ((from.0 < n) × (times_words n ≤ length t.now)) }
     ensures { result ≡ below_out_of_time n turn t.now from.0 from.0 }
@@ -176,6 +155,7 @@ fn row_out_of_time(t: &[u32], n: usize, turn: u32, from: Board) -> u32
 }
 
 // How many ordered pairs of different boards are not in time, with `turn` picks to turn round in.
+#[tactic(auto, using(crate::proofs::Pairs::square_turns), unfolding(crate::specs::Times::out_of_time))]
 pub fn out_of_time(t: &[u32], n: usize, turn: u32) -> u32
     requires { (n ≤ 32) × (times_words n ≤ length t.now) }
     ensures { result ≡ out_of_time n turn t.now }

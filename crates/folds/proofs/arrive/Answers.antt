@@ -1,5 +1,4 @@
--- `folds::arrive` meets its contract. The sets, the folds, and the rows with their folds (`crossed_rows`).
--- Assumes nothing.
+-- `folds::arrive` meets its contract. The sets, the folds, and the rows with their folds (`crossed_rows`). Assumes nothing.
 use Rattle.std.proofs.Common.{false, ◌∙◌, rules}
 use Rattle.times.specs.Times.{cell}
 use Rattle.folds.proofs.Gathered.{crossed_rows, small_sets}
@@ -15,5 +14,4 @@ fold_rows-requires c =
 pub returns : goal.returns
 returns c =
     c.fold_over.ensures
-    ∙ crossed_rows false c.args.n c.args.half.now c.args.later.now _ _
-    (c.write.ensures ∙ simp c.some_rows-some.ensures) c.fold_rows.ensures
+    ∙ crossed_rows false c.args.n c.args.half.now c.args.later.now _ _ (c.write.ensures ∙ simp c.some_rows-some.ensures) c.fold_rows.ensures

@@ -1,7 +1,5 @@
--- `folds::depart` meets its contract. The folds of the columns, transposed, with the later part (`crossed_departures`).
--- Assumes nothing.
-use Rattle.std.proofs.Common.{length, sym, ap, ◌∙◌, arith, rules}
-use Rattle.times.proofs.Cells.{length-rows}
+-- `folds::depart` meets its contract. The folds of the columns, transposed, with the later part (`crossed_departures`). Assumes nothing.
+use Rattle.std.proofs.Common.{◌∙◌, rules}
 use Rattle.folds.specs.Folds.{transposed}
 use Rattle.folds.proofs.Gathered.{crossed_departures, small_sets}
 use Rattle.folds.proofs.depart.Goals as goal
@@ -11,14 +9,8 @@ fold_rows-requires c =
     let n = c.args.n in
     (c.requires.0, (search rules, (search rules, (search rules, small_sets n (transposed n c.args.right.now) _ _ c.column_sets.ensures.1))))
 
-pub copy_over-requires : goal.copy_over-requires
-copy_over-requires c =
-    let p = c.requires in
-    (omega (arith, c.fold_rows.auto.folds, p.1.0), sym (ap length c.fold_over.ensures ∙ length-rows _ _ _))
-
 pub returns : goal.returns
 returns c =
-    c.copy_over.ensures
-    ∙ c.fold_over.ensures
+    c.copy_from_slice.ensures.after ∙ c.fold_over.ensures
     ∙ crossed_departures c.args.n c.args.half.now c.args.right.now _ _ _ _
     c.column_sets.ensures.0 c.column_sets.ensures.1 c.fold_rows.ensures c.transpose.ensures

@@ -5,4 +5,4 @@ use Rattle.folds.specs.Folds.{each, better}
 use Rattle.folds.proofs.fold.Given as goal
 
 abbrev pub invariant-loop-v : goal.invariant-loop-v
-invariant-loop-v l = Made (each (better l.late) l.initial.out l.row) l.n l.initial.out l.out l.v
+invariant-loop-v g l = Made (each (better g.B.Best.late) l.initial.out l.row) l.initial.out l.out l.v

@@ -5,4 +5,4 @@ use Rattle.joins.specs.Columns.{column_row}
 use Rattle.joins.proofs.add_column.Given as goal
 
 abbrev pub invariant-loop-u : goal.invariant-loop-u
-invariant-loop-u l = Made (column_row l.initial.out l.left l.row l.w) l.n l.initial.out l.out l.u
+invariant-loop-u l = Made (column_row l.initial.out l.left l.row l.w) l.initial.out l.out l.u

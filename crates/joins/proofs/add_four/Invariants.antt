@@ -6,4 +6,4 @@ use Rattle.joins.specs.Columns.{four_row}
 use Rattle.joins.proofs.add_four.Given as goal
 
 abbrev pub invariant-loop-u : goal.invariant-loop-u
-invariant-loop-u l = Made (four_row l.initial.out l.left l.right l.w) l.n l.initial.out l.out l.u
+invariant-loop-u l = Made (four_row l.initial.out l.left l.right l.w) l.initial.out l.out l.u

@@ -5,4 +5,4 @@ use Rattle.joins.specs.Warshall.{clear_row}
 use Rattle.joins.proofs.clear_own.Given as goal
 
 abbrev pub invariant-loop-u : goal.invariant-loop-u
-invariant-loop-u l = Made (clear_row l.initial.t) l.n l.initial.t l.t l.u
+invariant-loop-u l = Made (clear_row l.initial.t) l.initial.t l.t l.u

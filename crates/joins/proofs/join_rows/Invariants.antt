@@ -5,4 +5,4 @@ use Rattle.joins.specs.LookUps.{looked_row}
 use Rattle.joins.proofs.join_rows.Given as goal
 
 abbrev pub invariant-loop-u : goal.invariant-loop-u
-invariant-loop-u l = Made (looked_row l.ts l.initial.t) l.n l.initial.t l.t l.u
+invariant-loop-u l = Made (looked_row l.ts l.initial.t) l.initial.t l.t l.u

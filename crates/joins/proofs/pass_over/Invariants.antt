@@ -4,5 +4,5 @@ use Rattle.lists.proofs.Tab.{Made}
 use Rattle.joins.specs.Columns.{column_row}
 use Rattle.joins.proofs.pass_over.Given as goal
 
-abbrev pub invariant-loop-u : goal.invariant-loop-u
-invariant-loop-u l = Made (column_row l.initial.t l.initial.t l.row l.w) l.n l.initial.t l.t l.u
+abbrev pub invariant-loop-word : goal.invariant-loop-word
+invariant-loop-word l = Made (column_row l.initial.t l.initial.t l.row l.w) l.initial.t l.t l.word-index

@@ -1,18 +1,7 @@
--- `joins::tables` meets its contract.
--- Assumes nothing.
-use Rattle.joins.specs.LookUps.{tables_from}
+-- `joins::tables` meets its contract: the tables before table j are made. Assumes nothing.
+use Rattle.std.proofs.Common.{rules}
+use Rattle.joins.proofs.LookUps.{tables_by}
 use Rattle.joins.proofs.tables.Goals as goal
 
 pub returns : goal.returns
-unfolding tables_from
-returns c =
-    simp (
-      c.unions.ensures,
-      c.unions-2.ensures,
-      c.unions-3.ensures,
-      c.unions-4.ensures,
-      c.unions-5.ensures,
-      c.unions-6.ensures,
-      c.unions-7.ensures,
-      c.unions-8.ensures,
-    )
+returns c = tables_by _ _ 8 c.loop-j.invariant.0 (search rules)

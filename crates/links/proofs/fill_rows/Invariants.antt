@@ -5,4 +5,4 @@ use Rattle.links.specs.Tables.{without}
 use Rattle.links.proofs.fill_rows.Given as goal
 
 abbrev pub invariant-loop-u : goal.invariant-loop-u
-invariant-loop-u l = Made (without l.boards) l.n l.initial.out l.out l.u
+invariant-loop-u l = Made (without l.boards) l.initial.out l.out l.u

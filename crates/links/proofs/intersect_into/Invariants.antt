@@ -5,4 +5,4 @@ use Rattle.links.specs.Tables.{both_row}
 use Rattle.links.proofs.intersect_into.Given as goal
 
 abbrev pub invariant-loop-u : goal.invariant-loop-u
-invariant-loop-u l = Made (both_row l.initial.t l.right) l.n l.initial.t l.t l.u
+invariant-loop-u l = Made (both_row l.initial.t l.right) l.initial.t l.t l.u

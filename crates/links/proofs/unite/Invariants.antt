@@ -5,4 +5,4 @@ use Rattle.links.specs.Tables.{either_row}
 use Rattle.links.proofs.unite.Given as goal
 
 abbrev pub invariant-loop-u : goal.invariant-loop-u
-invariant-loop-u l = Made (either_row l.left l.right) l.n l.initial.out l.out l.u
+invariant-loop-u l = Made (either_row l.left l.right) l.initial.out l.out l.u

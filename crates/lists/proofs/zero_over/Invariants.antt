@@ -2,5 +2,5 @@
 use Rattle.lists.proofs.Tab.{Made, zero_word}
 use Rattle.lists.proofs.zero_over.Given as goal
 
-abbrev pub invariant-loop-u : goal.invariant-loop-u
-invariant-loop-u l = Made zero_word l.n l.initial.out l.out l.u
+abbrev pub invariant-loop-word : goal.invariant-loop-word
+invariant-loop-word l = Made zero_word l.initial.out l.out l.word-index

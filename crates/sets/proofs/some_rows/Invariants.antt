@@ -1,11 +1,9 @@
--- `sets::some_rows` meets its contract. The invariant is the definition at w; a lent row is `any_lent`.
--- Assumes nothing.
-use mathlib.Core.Path.{◌≡◌}
-use Prim.Native.Nat.{◌≤◌}
-use Rattle.times.specs.Times.{cell}
+-- `sets::some_rows` meets its contract. The invariant is the definition at w; a lent row is `any_lent`. Assumes nothing.
+use Rattle.std.proofs.Common.{◌≡◌}
 use Rattle.lists.specs.Tab.{any_of}
+use Rattle.times.specs.Times.{cell}
 use Rattle.sets.specs.Marks.{marks}
 use Rattle.sets.proofs.some_rows.Given as goal
 
 abbrev pub invariant-loop-w : goal.invariant-loop-w
-invariant-loop-w l = (l.w ≤ l.n) × (l.set ≡ marks (λ i. any_of (cell l.n l.half i) l.n) l.w)
+invariant-loop-w l = l.set ≡ marks (λ i. any_of (cell l.n l.half i) l.n) l.w

@@ -5,4 +5,4 @@ use Rattle.sets.specs.Marks.{own_row}
 use Rattle.sets.proofs.with_own.Given as goal
 
 abbrev pub invariant-loop-u : goal.invariant-loop-u
-invariant-loop-u l = Made (own_row l.initial.sets l.some) l.n l.initial.sets l.sets l.u
+invariant-loop-u l = Made (own_row l.initial.sets l.some) l.initial.sets l.sets l.u

@@ -1,9 +1,7 @@
--- `sets::write_columns` meets its contract. The boards of each column, then its own board (`columns_own`).
--- Assumes nothing.
-use mathlib.Core.Path.{◌∙◌}
+-- `sets::write_columns` meets its contract. The boards of each column, then its own board (`columns_own`). Assumes nothing.
+use Rattle.std.proofs.Common.{◌∙◌}
 use Rattle.sets.proofs.Bits.{columns_own}
 use Rattle.sets.proofs.write_columns.Goals as goal
 
 pub returns : goal.returns
-returns c =
-    c.with_own.ensures ∙ columns_own _ _ c.args.half.now _ c.column_marks.ensures
+returns c = c.with_own.ensures ∙ columns_own _ _ c.args.half.now _ c.column_marks.ensures

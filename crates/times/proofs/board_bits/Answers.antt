@@ -1,17 +1,10 @@
--- `times::board_bits` meets its contract. The invariant is `Made`.
--- Assumes nothing.
-use Rattle.std.proofs.Common.{length, sym, ap, ◌∙◌, mod-eq_of_lt, one-mul}
-use lib.Pow.{pow-lt}
-use Rattle.lists.proofs.Tab.{length-zeros, made_start, made_turn, made_all}
+-- `times::board_bits` meets its contract: each call gave one bit. Assumes nothing.
+use Rattle.std.proofs.Common.{rules}
+use Rattle.lists.proofs.Many.{one_bit}
+use Rattle.lists.proofs.Tab.{tab_of}
 use Rattle.times.specs.Own.{board_bit}
 use Rattle.times.proofs.board_bits.Goals as goal
 
-pub loop-v-init : goal.loop-v-init
-loop-v-init c = made_start (sym (ap length c.no_words-bits.ensures ∙ length-zeros 32))
-
-pub loop-v-preserved : goal.loop-v-preserved
-unfolding board_bit
-loop-v-preserved c = made_turn c.loop-v.invariant c.loop-v-test.true (simp (one-mul, mod-eq_of_lt (pow-lt {j = 32} c.loop-v-test.true)))
-
 pub returns : goal.returns
-returns c = made_all c.loop-v.invariant c.loop-v-test.false
+unfolding board_bit
+returns c = let h = c.from_fn.ensures.items in tab_of board_bit 32 _ h.long (λ k l. search (rules, h.at k 0 l, one_bit k l))

@@ -1,22 +1,16 @@
--- `times::in_time` meets its contract. The invariant: the boards below `u` are in time with those below them.
--- Assumes nothing.
-use Rattle.std.proofs.Common.{◌≡◌, sym, ◌∙◌, arith, rules}
-use Rattle.lists.proofs.Tab.{every_none, every-next, every_stop}
+-- `times::in_time` meets its contract: each board is in time with those below it (`below_all`). Assumes nothing.
+use Rattle.std.proofs.Common.{rules, refl, ◌∙◌, tests}
+use native.Mathlib.Nat.{sub-zero}
+use Rattle.std.proofs.lemmas.Iterator.{YieldsList-from_range}
+use Rattle.std.proofs.lemmas.Iterator.Search.{all_from_yields_List}
+use Rattle.lists.proofs.Tab.{every_range}
+use Rattle.times.specs.Pairs.{below_in_time}
 use Rattle.times.proofs.Pairs.{below_all}
 use Rattle.times.proofs.in_time.Goals as goal
 
-pub loop-u-init : goal.loop-u-init
-loop-u-init c = (search rules, every_none _)
-
-pub returns-then-not-row_in_time : goal.returns-then-not-row_in_time
-returns-then-not-row_in_time c = sym (every_stop _ _ _ c.loop-u-test.true (sym c.row_in_time.ensures ∙ c.if-not-row_in_time.true))
-    ∙ below_all _ _ _
-
-pub loop-u-preserved : goal.loop-u-preserved
-loop-u-preserved c = (
-  omega (arith, c.loop-u-test.true),
-  every-next _ _ c.loop-u.invariant.1 (sym c.row_in_time.ensures ∙ c.if-not-row_in_time.false),
-)
-
 pub returns : goal.returns
-returns c = let e : c.loop-u.u ≡ c.args.n = omega arith in sym (rw e at c.loop-u.invariant.1) ∙ below_all _ _ _
+returns c =
+    let s = c.args in
+    all_from_yields_List (below_in_time s.n s.turn s.t.now) _ _ _ c.all.ensures.ran (YieldsList-from_range 0 s.n s.n refl (sub-zero _))
+    (λ x b q k. search (rules, tests))
+    ∙ every_range _ _ ∙ below_all _ _ _

@@ -1,23 +1,16 @@
--- `times::row_in_time` meets its contract. The invariant: the boards below `v` are in time with `u`.
--- Assumes nothing.
-use Rattle.std.proofs.Common.{◌≡◌, sym, ◌∙◌, arith, rules}
-use Rattle.lists.proofs.Tab.{every_none, every-next, every_stop}
-use Rattle.times.specs.Pairs.{below_in_time}
+-- `times::row_in_time` meets its contract: the test is made of the boards below `u`. Assumes nothing.
+use Rattle.std.proofs.Common.{rules, refl, ◌∙◌, tests}
+use native.Mathlib.Nat.{sub-zero}
+use Rattle.std.proofs.lemmas.Iterator.{YieldsList-from_range}
+use Rattle.std.proofs.lemmas.Iterator.Search.{all_from_yields_List}
+use Rattle.lists.proofs.Tab.{every_range}
+use Rattle.times.specs.Pairs.{pair_in_time, below_in_time}
 use Rattle.times.proofs.row_in_time.Goals as goal
-
-pub loop-v-init : goal.loop-v-init
-loop-v-init c = (search rules, every_none _)
-
-pub returns-then-not-pair_in_time : goal.returns-then-not-pair_in_time
-unfolding below_in_time
-returns-then-not-pair_in_time c = sym (every_stop _ _ _ c.loop-v-test.true (sym c.pair_in_time.ensures ∙ c.if-not-pair_in_time.true))
-
-pub loop-v-preserved : goal.loop-v-preserved
-loop-v-preserved c = (
-  omega (arith, c.loop-v-test.true),
-  every-next _ _ c.loop-v.invariant.1 (sym c.pair_in_time.ensures ∙ c.if-not-pair_in_time.false),
-)
 
 pub returns : goal.returns
 unfolding below_in_time
-returns c = let e : c.loop-v.v ≡ c.args.from.0 = omega arith in sym (rw e at c.loop-v.invariant.1)
+returns c =
+    let s = c.args in
+    all_from_yields_List (pair_in_time s.n s.turn s.t.now s.from.0) _ _ _ c.all.ensures.ran (YieldsList-from_range 0 s.from.0 s.from.0 refl (sub-zero _))
+    (λ x b q k. search (rules, tests))
+    ∙ every_range _ _

@@ -1,9 +1,0 @@
--- `lists::no_times` meets its contract. The repeat is `replicate 2048 0`.
--- Assumes nothing.
-use Rattle.lists.specs.Tab.{zeros}
-use Rattle.std.proofs.Common.{rules}
-use Rattle.lists.proofs.no_times.Goals as goal
-
-pub returns : goal.returns
-unfolding zeros
-returns c = search rules
