@@ -18,7 +18,7 @@ use Rattle.commands.specs.declared.Command.{Command}
 use Rattle.commands.specs.declared.Command.TheVariants.{Boards, Later}
 use Rattle.commands.specs.declared.Item.{Item}
 use Rattle.commands.specs.declared.Item.TheVariants.{Link}
-use Rattle.commands.specs.Commands.{shapes, lookup, arity_of, command_of, misplaced, command_at}
+use Rattle.commands.specs.Commands.{shapes, arity_of, command_of, misplaced, command_at}
 use Rattle.commands.specs.Causes.{no_link, unchanged, later_causes, item_in, next}
 use Rattle.commands.proofs.Admit.{Linkable, linkable, stood, Headed}
 use Rattle.commands.proofs.Fitted.{next_then, head_then}
@@ -64,7 +64,7 @@ module _ (bytes : List ℕ) (n limit turns at : ℕ) (picks : List (List ℕ)) (
   pub act_turn : (x : Act) (rest : List ℕ) → drop at bytes ≡ spell x ++ rest → May n limit (length picks) links x
       → commands bytes n limit (suc turns) at picks links
       ≡ commands bytes n limit turns (at + length (spell x)) (picks_after picks links x) (links_after links x)
-  unfolding commands first_or command_of arity_of lookup
+  unfolding commands first_or command_of arity_of
   act_turn (sets true a b) rest e m =
       simp (next_then, here bytes at 0x4F (a ∷ b ∷ rest) e false 2 refl refl (omega arith), able n a b m.0, changes true (link links a b) m.1)
   act_turn (sets false a b) rest e m =
@@ -72,14 +72,14 @@ module _ (bytes : List ℕ) (n limit turns at : ℕ) (picks : List (List ℕ)) (
   act_turn pick rest e m = simp (next_then, here bytes at 0x50 rest e false 0 refl refl (omega arith), lt-leb limit (length picks) m)
 
   pub end_turn : (rest : List ℕ) → drop at bytes ≡ 0x45 ∷ rest → commands bytes n limit (suc turns) at picks links ≡ ended n picks (at + 1)
-  unfolding commands first_or command_of arity_of lookup
+  unfolding commands first_or command_of arity_of
   end_turn rest e = simp (next_then, here bytes at 0x45 rest e false 0 refl refl (omega arith))
 
 -- the first command, where the call and n pass
 pub head_turn : (limit room : ℕ) (bytes : List ℕ) (n : ℕ) (rest : List ℕ) → bytes ≡ 0x42 ∷ n ∷ rest → 1 ≤ limit → limit ≤ 4096
     → 2 ≤ n → n ≤ 32
     → limit * n ≤ room → recording_at limit room bytes 0 ≡ body limit bytes 0 n
-unfolding recording_at first_or command_of arity_of lookup
+unfolding recording_at first_or command_of arity_of
 head_turn limit room bytes n rest e a b c d r =
     let h = here bytes 0 0x42 (n ∷ rest) e true 1 refl refl (omega arith) in
     simp (head_then, between_in 1 limit 4096 a b, h, between_in 2 n 32 c d, le-ltb room (limit * n) r)
@@ -154,7 +154,7 @@ module _ (bytes : List ℕ) (n limit at : ℕ) (picks : List (List ℕ)) (links 
 
 -- the first command
 pub head_back : {limit room : ℕ} {bytes : List ℕ} {n : ℕ} → Headed limit room bytes 0 n → bytes ≡ 0x42 ∷ n ∷ drop 2 bytes
-unfolding command_of arity_of lookup
+unfolding command_of arity_of
 head_back {bytes = bytes} {n = n} h =
     let s = h.stands in
     let b : get_or bytes 0 0 ≡ 0x42 = eqb-true (get_or bytes 0 0) 0x42 (not-false (eqb (get_or bytes 0 0) 0x42) s.stands.placed) in

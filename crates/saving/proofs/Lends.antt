@@ -17,8 +17,9 @@ use Rattle.model.proofs.Logic.{tr}
 use Rattle.checks.specs.Lent.{lent_picks, clean_picks}
 use Rattle.checks.proofs.Lent.{length_lent, lent-recording, lent_at}
 use Rattle.saving.specs.declared.Change.{Change}
+use Rattle.saving.specs.declared.Lent.{Lent}
 use Rattle.saving.specs.File.{links_at, acts_at}
-use Rattle.saving.specs.Changes.{pick_of, IsChangeAt}
+use Rattle.saving.specs.Changes.{pick_of, count_of, picks_of, IsChangeAt}
 
 -- neither has a forbidden bit
 pub before_clean : (n : ℕ) (picks : List (List ℕ)) → Recording n picks → (k : ℕ) → k ≤ length picks → Clean n (links_at n picks k)
@@ -28,37 +29,35 @@ before_clean n picks r (suc k) h = pick-at n picks r (suc k) (omega arith) h
 pub pick_clean : (n : ℕ) (picks : List (List ℕ)) → Recording n picks → (k : ℕ) → k < length picks → Clean n (get_or picks k [])
 pick_clean n picks r k h = pick-at n picks r (suc k) (omega arith) h
 
-module _ (n : ℕ) (w : List ℕ) where
-  abbrev pub picks : List (List ℕ)
-  picks = lent_picks n w (length w / n)
-
-  pub this_pick : (k : ℕ) → k < length w / n → links_at n picks (suc k) ≡ lent_pick n w k
-  this_pick k h = lent_at n w (length w / n) k h
+module _ (l : Lent) where
+  pub this_pick : (k : ℕ) → k < count_of l → links_at l.n (picks_of l) (suc k) ≡ lent_pick l.n l.words.now k
+  this_pick k h = lent_at l.n l.words.now (count_of l) k h
 
   -- the words before those of a pick
-  pub part_before : (k : ℕ) → k < length w / n → (k ≡ 0 → ⊥) → take (k * n - (k - 1) * n) (drop ((k - 1) * n) w) ≡ links_at n picks k
+  pub part_before : (k : ℕ) → k < count_of l → (k ≡ 0 → ⊥)
+      → take (k * l.n - (k - 1) * l.n) (drop ((k - 1) * l.n) l.words.now) ≡ links_at l.n (picks_of l) k
   unfolding lent_pick
   part_before zero h z = absurd (z refl)
   part_before (suc j) h z =
       let e : suc j - 1 ≡ j = omega arith in
-      let d : suc j * n - j * n ≡ n = omega (arith, suc-mul j n) in
+      let d : suc j * l.n - j * l.n ≡ l.n = omega (arith, suc-mul j l.n) in
       rw (e, d) (sym (this_pick j (omega arith)))
 
-  pub clean_before : ((j : ℕ) → j < length w / n → Clean n (lent_pick n w j)) → (k : ℕ) → k < length w / n → Clean n (links_at n picks k)
-  clean_before c zero h = zeros-clean n
-  clean_before c (suc j) h = rw (this_pick j (omega arith)) (c j (omega arith))
+  pub clean_before : (k : ℕ) → k < count_of l → Clean l.n (links_at l.n (picks_of l) k)
+  clean_before zero h = zeros-clean l.n
+  clean_before (suc j) h = rw (this_pick j (omega arith)) (l.clean j (omega arith))
 
   -- the commands of the change to a pick
-  pub change_at : {k : ℕ} {c : Change} → IsChangeAt n w k c → pick_of c ≡ acts_at n picks k
+  pub change_at : {k : ℕ} {c : Change} → IsChangeAt l k c → pick_of c ≡ acts_at l.n (picks_of l) k
   unfolding acts_at
   change_at i = rw (i.wide, i.was, i.is)
 
-  -- as the check of a lent sequence finds them
-  pub clean_lent : true ≡ clean_picks n w (length w / n) → (k : ℕ) → k < length w / n → Clean n (lent_pick n w k)
-  clean_lent e k h =
-      let m = length w / n in
-      let r = lent-recording n w m (div-mul-le_self (length w) n) (tr e tt) m (le_refl m) in
-      rw (this_pick k h) at (pick_clean n picks r k (rw length_lent h))
+-- as the check of a lent sequence finds them
+pub clean_lent : (n : ℕ) (w : List ℕ) → true ≡ clean_picks n w (length w / n) → (k : ℕ) → k < length w / n → Clean n (lent_pick n w k)
+clean_lent n w e k h =
+    let m = length w / n in
+    let r = lent-recording n w m (div-mul-le_self (length w) n) (tr e tt) m (le_refl m) in
+    rw (lent_at n w m k h) at (pick_clean n (lent_picks n w m) r k (rw length_lent h))
 
 -- ---- a pass over the picks, in chunks of n words: what is left of the words after k picks
 

@@ -1,9 +1,11 @@
--- What the functions that write promise, said of a change and of an output.
+-- What the functions that write promise, said of a change, of an output and of the words that were lent.
 use Rattle.std.specs.Prelude.{◌≡◌, Bool, List, ℕ, ◌+◌, ◌≤◌, ◌/◌, suc, length}
 use Rattle.checks.specs.Lent.{lent_picks}
 use Rattle.recording.specs.Grammar.{Act}
 use Rattle.saving.specs.declared.Change.{Change}
+use Rattle.saving.specs.declared.Lent.{Lent}
 use Rattle.saving.specs.declared.Output.{Output}
+use Rattle.saving.specs.Answers.{lent_file}
 use Rattle.saving.specs.File.{row_acts, table_acts, change_acts, pick_acts, links_at}
 use Rattle.saving.specs.Puts.{bytes_of, Put}
 
@@ -32,8 +34,18 @@ pub record Puts (out after : Output) (xs : List Act) : Type 0 where
   pub there : after.bytes.ghost_name ≡ out.bytes.ghost_name
   pub made : Put out.bytes.now after.bytes.now out.at after.at xs
 
--- the change is that of the pick with k picks before it
-pub record IsChangeAt (n : ℕ) (w : List ℕ) (k : ℕ) (c : Change) : Type 0 where
-  pub wide : length c.was.now ≡ n
-  pub was : c.was.now ≡ links_at n (lent_picks n w (length w / n)) k
-  pub is : c.is.now ≡ links_at n (lent_picks n w (length w / n)) (suc k)
+-- how many picks were lent, which, and their file
+abbrev pub count_of : Lent → ℕ
+count_of l = length l.words.now / l.n
+
+abbrev pub picks_of : Lent → List (List ℕ)
+picks_of l = lent_picks l.n l.words.now (count_of l)
+
+abbrev pub file_of : Lent → List ℕ
+file_of l = lent_file l.n l.words.now
+
+-- the change is that to the pick with k picks before it
+pub record IsChangeAt (l : Lent) (k : ℕ) (c : Change) : Type 0 where
+  pub wide : length c.was.now ≡ l.n
+  pub was : c.was.now ≡ links_at l.n (picks_of l) k
+  pub is : c.is.now ≡ links_at l.n (picks_of l) (suc k)

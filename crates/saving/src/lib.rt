@@ -6,14 +6,13 @@ ghost use Rattle.model.specs.Recording.{Clean};
 ghost use Rattle.lists.specs.Tab.{splice};
 ghost use Rattle.links.specs.Picks.{lent_pick};
 ghost use Rattle.recording.specs.Grammar.{code, sets};
-ghost use Rattle.checks.specs.Lent.{lent_picks};
 ghost use Rattle.saving.specs.File.{links_at};
 ghost use Rattle.saving.specs.Puts.{Changed};
-ghost use Rattle.saving.specs.Answers.{lent_file, saving_says, save_says, save_leaves};
+ghost use Rattle.saving.specs.Answers.{saving_says, save_says, save_leaves};
 
 use model::{Board, Refusal};
 
-// The links before the first pick: none is open.
+// The links before the first pick: none is open. A static, since a constant array is written out at each call.
 static SHUT: [u32; 32] = [0; 32];
 
 // ---- the output
@@ -35,6 +34,7 @@ struct Output<'a> {
 impl Output<'_> {
     ghost use Rattle.saving.specs.Changes.{Puts};
 
+    // A byte more.
     fn put(&mut self, byte: u8)
         requires { self.old.at < length self.old.bytes.now }
         ensures there { self.new.bytes.ghost_name ≡ self.old.bytes.ghost_name }
@@ -45,6 +45,7 @@ impl Output<'_> {
         self.at += 1;
     }
 
+    // The command of a link.
     fn put_link(&mut self, opens: bool, from: Board, to: Board)
         requires { (from.0 < 32) × (to.0 < 32) × (self.old.at + 3 ≤ length self.old.bytes.now) }
         ensures { Puts self.old self.new (sets opens from.0 to.0 ∷ []) }
@@ -97,6 +98,7 @@ impl Change<'_> {
         ensures { Puts out.old out.new (row_of opens self.now a) }
     {
         let mut rest = changed(opens, self.was[a], self.is[a]);
+        // The library has no iterator over set bits, and one of our own would be longer than this loop.
         while rest != 0 {
             let b = links::board_in(rest);
             out.put_link(opens, Board(a), Board(b));
@@ -148,12 +150,12 @@ struct Lent<'a> {
 }
 
 impl<'a> Lent<'a> {
-    ghost use Rattle.saving.specs.Changes.{IsChangeAt};
+    ghost use Rattle.saving.specs.Changes.{count_of, picks_of, file_of, IsChangeAt};
 
     // The links of the pick before the one with k picks before it; all are shut before the first.
     fn links_before(&self, k: usize) -> &'a [u32]
-        requires { k < length self.now.words.now / self.now.n }
-        ensures { result.now ≡ links_at self.now.n (lent_picks self.now.n self.now.words.now (length self.now.words.now / self.now.n)) k }
+        requires { k < count_of self.now }
+        ensures { result.now ≡ links_at self.now.n (picks_of self.now) k }
     {
         if k == 0 {
             return &SHUT[..self.n];
@@ -163,8 +165,8 @@ impl<'a> Lent<'a> {
 
     // The change to the pick with k picks before it.
     fn change(&self, k: usize, pick: &'a [u32]) -> Change<'a>
-        requires { (k < length self.now.words.now / self.now.n) × (pick.now ≡ lent_pick self.now.n self.now.words.now k) }
-        ensures { IsChangeAt self.now.n self.now.words.now k result }
+        requires { (k < count_of self.now) × (pick.now ≡ lent_pick self.now.n self.now.words.now k) }
+        ensures { IsChangeAt self.now k result }
     {
         Change {
             was: self.links_before(k),
@@ -174,7 +176,7 @@ impl<'a> Lent<'a> {
 
     // How many bytes the file has.
     fn size(&self) -> usize
-        ensures { result ≡ length (lent_file self.now.n self.now.words.now) }
+        ensures { result ≡ length (file_of self.now) }
     {
         let mut size: usize = 3;
         for (k, pick) in self.words.chunks_exact(self.n).enumerate() {
@@ -185,9 +187,8 @@ impl<'a> Lent<'a> {
 
     // Writes the file over the front of the output.
     fn write(&self, out: &mut [u8])
-        requires { length (lent_file self.now.n self.now.words.now) ≤ length out.old }
-        ensures { out.new ≡ splice 0 (length (lent_file self.now.n self.now.words.now)) (lent_file self.now.n self.now.words.now)
-            out.old }
+        requires { length (file_of self.now) ≤ length out.old }
+        ensures { out.new ≡ splice 0 (length (file_of self.now)) (file_of self.now) out.old }
     {
         let mut out = Output { bytes: out, at: 0 };
         out.put(0x42);

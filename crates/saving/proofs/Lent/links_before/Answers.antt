@@ -10,4 +10,4 @@ unfolding zeros
 returns-then-k-eq0 c = let s = c.args.self.now in rw c.if-k-eq0.true (take-replicate s.n 32 0 s.boards.1)
 
 pub returns : goal.returns
-returns c = let s = c.args.self.now in part_before s.n s.words.now c.args.k c.requires c.if-k-eq0.false
+returns c = part_before c.args.self.now c.args.k c.requires c.if-k-eq0.false

@@ -1,19 +1,17 @@
 -- `Lent::size` meets its contract: after k picks, their bytes and three.
 -- Assumes nothing.
 use mathlib.Core.Path.{◌≡◌, refl, ap, ◌∙◌}
-use Prim.Native.Nat.{◌/◌}
 use native.Mathlib.Numerals.{add-one}
 use native.Mathlib.Omega.{arith}
-use lib.ListN.{length}
 use Rattle.std.specs.Iterator.Adapters.{enumerate_count}
 use Rattle.checks.proofs.Lent.{length_lent}
 use Rattle.saving.specs.File.{each}
 use Rattle.saving.specs.Puts.{bytes_of}
-use Rattle.saving.specs.Changes.{size_of}
+use Rattle.saving.specs.Changes.{size_of, count_of, picks_of}
 use Rattle.saving.specs.Answers.{lent_file}
 use Rattle.saving.proofs.Acts.{bytes_length}
 use Rattle.saving.proofs.Size.{file-size}
-use Rattle.saving.proofs.Lends.{picks, change_at, passing_start, passing_turn, passing_all}
+use Rattle.saving.proofs.Lends.{change_at, passing_start, passing_turn, passing_all}
 use Rattle.saving.proofs.Lent.size.Goals as goal
 
 pub loop-k-init : goal.loop-k-init
@@ -31,7 +29,7 @@ loop-k-preserved c =
     let t = passing_turn c.loop-k.invariant.at c.in-Some.ensures.steps in
     let s = c.args.self.now in
     let i = c.loop-k.invariant in
-    let e = c.size-size.ensures.0 ∙ ap size_of (rw t.number at (change_at s.n s.words.now c.change.ensures)) in
+    let e = c.size-size.ensures.0 ∙ ap size_of (rw t.number at (change_at s c.change.ensures)) in
     record {
       at = t.on;
       sum = rw (t.next_number, add-one, bytes_length) (omega (arith, i.sum, e));
@@ -42,6 +40,5 @@ pub returns : goal.returns
 unfolding lent_file
 returns c =
     let s = c.args.self.now in
-    let w = s.words.now in
     let i = c.loop-k.invariant in
-    rw (passing_all i.at c.in-None.ensures.steps.0.1.0) at i.sum ∙ file-size s.n (picks s.n w) (length w / s.n) (length_lent s.n w (length w / s.n))
+    rw (passing_all i.at c.in-None.ensures.steps.0.1.0) at i.sum ∙ file-size s.n (picks_of s) (count_of s) (length_lent s.n s.words.now (count_of s))

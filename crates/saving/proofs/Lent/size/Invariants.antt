@@ -7,7 +7,8 @@ use Rattle.std.specs.Iterator.Adapters.{enumerate_source, enumerate_count}
 use Rattle.std.specs.Slice.Iter.{chunks_exact_rest, chunks_exact_size}
 use Rattle.saving.specs.File.{each, acts_at}
 use Rattle.saving.specs.Puts.{bytes_of}
-use Rattle.saving.proofs.Lends.{picks, Passing}
+use Rattle.saving.specs.Changes.{picks_of}
+use Rattle.saving.proofs.Lends.{Passing}
 use Rattle.saving.proofs.Lent.size.Given as goal
 
 abbrev pub invariant-loop-k : goal.invariant-loop-k
@@ -16,6 +17,6 @@ invariant-loop-k l =
     let w = l.self.words.now in
     let k = enumerate_count l.k-iterator in record {
       at : Passing n w k (chunks_exact_size (enumerate_source l.k-iterator)) (chunks_exact_rest (enumerate_source l.k-iterator));
-      sum : l.size ≡ 3 + length (bytes_of (each (acts_at n (picks n w)) k));
+      sum : l.size ≡ 3 + length (bytes_of (each (acts_at n (picks_of l.self)) k));
       few : l.size ≤ 3 + 3073 * k;
     }

@@ -2,38 +2,40 @@
 -- Assumes nothing.
 use mathlib.Core.Path.{◌≡◌, refl, sym, ◌∙◌}
 use mathlib.Core.List.{List}
-use Prim.Native.Nat.{ℕ, ◌≤◌, ◌/◌}
+use Prim.Native.Nat.{◌≤◌}
 use native.Mathlib.Omega.{arith}
 use lib.ListN.{length, set, length-set}
 use Rattle.std.specs.Iterator.Adapters.{enumerate_count}
 use Rattle.checks.proofs.Lent.{length_lent}
 use Rattle.recording.specs.Grammar.{Act, spell_file}
 use Rattle.saving.specs.File.{each, acts_at, file_acts, file}
+use Rattle.saving.specs.declared.Lent.{Lent}
 use Rattle.saving.specs.Puts.{Put}
+use Rattle.saving.specs.Changes.{count_of, picks_of, file_of}
 use Rattle.saving.specs.Answers.{lent_file}
 use Rattle.saving.proofs.Put.{wrote_start, wrote_room, wrote_turn, wrote_all, file_room, last_room, file_put}
-use Rattle.saving.proofs.Lends.{picks, change_at, passing_start, passing_turn, passing_all}
+use Rattle.saving.proofs.Lends.{change_at, passing_start, passing_turn, passing_all}
 use Rattle.saving.proofs.Lent.write.Goals as goal
 use Rattle.saving.proofs.Lent.write.Goals.{Start, After-put-2, In-None}
 
 -- the commands of all picks
-abbrev acts : ℕ → List ℕ → List Act
-acts n w = each (acts_at n (picks n w)) (length w / n)
+abbrev acts : Lent → List Act
+acts l = each (acts_at l.n (picks_of l)) (count_of l)
 
-file_is : (n : ℕ) (w : List ℕ) → lent_file n w ≡ spell_file n (acts n w)
+file_is : (l : Lent) → file_of l ≡ spell_file l.n (acts l)
 unfolding lent_file file file_acts
-file_is n w = rw (length_lent n w (length w / n)) refl
+file_is l = rw (length_lent l.n l.words.now (count_of l)) refl
 
-room : (c : Start) → length (spell_file c.args.self.now.n (acts c.args.self.now.n c.args.self.now.words.now)) ≤ length c.args.out.now
-room c = rw (file_is c.args.self.now.n c.args.self.now.words.now) at c.requires
+room : (c : Start) → length (spell_file c.args.self.now.n (acts c.args.self.now)) ≤ length c.args.out.now
+room c = rw (file_is c.args.self.now) at c.requires
 
 pub put-requires : goal.put-requires
-put-requires c = let s = c.args.self.now in omega (arith, file_room s.n (acts s.n s.words.now) c.args.out.now (room (goal.at.put-requires c).Start))
+put-requires c = let s = c.args.self.now in omega (arith, file_room s.n (acts s) c.args.out.now (room (goal.at.put-requires c).Start))
 
 pub put-requires-2 : goal.put-requires-2
 put-requires-2 c = let s = c.args.self.now in
     rw (c.put.ensures.next, c.put.ensures.made, length-set)
-    (omega (arith, file_room s.n (acts s.n s.words.now) c.args.out.now (room (goal.at.put-requires-2 c).Start)))
+    (omega (arith, file_room s.n (acts s) c.args.out.now (room (goal.at.put-requires-2 c).Start)))
 
 -- the output behind 42 and n
 begun : (c : After-put-2) → let o = c.put-2.new.self in let s = c.args.self.now in
@@ -45,7 +47,7 @@ loop-k-init c =
     let z : enumerate_count c.into_iter-k-iterator.result ≡ 0 = cc in
     let s = c.args.self.now in
     let b = begun (goal.at.loop-k-init c).After-put-2 in
-    let l = file_room s.n (acts s.n s.words.now) c.args.out.now (room (goal.at.loop-k-init c).Start) in
+    let l = file_room s.n (acts s) c.args.out.now (room (goal.at.loop-k-init c).Start) in
     rw z record {
       at = passing_start s.boards (cc) (cc);
       there = refl;
@@ -59,7 +61,7 @@ pub write-requires : goal.write-requires
 write-requires c =
     let t = passing_turn c.loop-k.invariant.at c.in-Some.ensures.steps in
     let s = c.args.self.now in
-    rw (change_at s.n s.words.now c.change.ensures, t.number) (wrote_room c.loop-k.invariant.wrote (rw t.number at t.inside))
+    rw (change_at s c.change.ensures, t.number) (wrote_room c.loop-k.invariant.wrote (rw t.number at t.inside))
 
 pub loop-k-preserved : goal.loop-k-preserved
 loop-k-preserved c =
@@ -71,12 +73,12 @@ loop-k-preserved c =
       at = t.on;
       there = e.there ∙ i.there;
       wrote = rw t.next_number
-          (wrote_turn i.wrote (rw t.number at t.inside) (rw (change_at s.n s.words.now c.change.ensures, t.number) at e.made));
+          (wrote_turn i.wrote (rw t.number at t.inside) (rw (change_at s c.change.ensures, t.number) at e.made));
     }
 
 -- all picks are put behind 42 and n
 put_all : (c : In-None) → let s = c.args.self.now in
-    Put (set (set c.args.out.now 0 0x42) 1 s.n) c.loop-k.out.bytes.now 2 c.loop-k.out.at (acts s.n s.words.now)
+    Put (set (set c.args.out.now 0 0x42) 1 s.n) c.loop-k.out.bytes.now 2 c.loop-k.out.at (acts s)
 put_all c =
     let i = c.loop-k.invariant in
     let b = begun (goal.at.In-None c).After-put-2 in
@@ -85,12 +87,11 @@ put_all c =
 
 pub put-requires-3 : goal.put-requires-3
 put-requires-3 c = let s = c.args.self.now in
-    last_room s.n (acts s.n s.words.now) c.args.out.now (room (goal.at.put-requires-3 c).Start) (put_all (goal.at.put-requires-3 c).In-None)
+    last_room s.n (acts s) c.args.out.now (room (goal.at.put-requires-3 c).Start) (put_all (goal.at.put-requires-3 c).In-None)
 
 pub returns : goal.returns
 returns c =
     let s = c.args.self.now in
-    let w = s.words.now in
     let k = sym (c.put-3.ensures.there ∙ c.loop-k.invariant.there ∙ c.put-2.ensures.there ∙ c.put.ensures.there) in
-    let f = c.put-3.ensures.made ∙ file_put s.n (acts s.n w) c.args.out.now (room (goal.at.returns c).Start) (put_all (goal.at.returns c).In-None) in
-    rw (file_is s.n w) (grind arith)
+    let f = c.put-3.ensures.made ∙ file_put s.n (acts s) c.args.out.now (room (goal.at.returns c).Start) (put_all (goal.at.returns c).In-None) in
+    rw (file_is s) (grind arith)

@@ -6,7 +6,8 @@ use lib.ListN.{length}
 use Rattle.std.specs.Iterator.Adapters.{enumerate_source, enumerate_count}
 use Rattle.std.specs.Slice.Iter.{chunks_exact_rest, chunks_exact_size}
 use Rattle.saving.specs.File.{acts_at}
-use Rattle.saving.proofs.Lends.{picks, Passing}
+use Rattle.saving.specs.Changes.{picks_of}
+use Rattle.saving.proofs.Lends.{Passing}
 use Rattle.saving.proofs.Put.{Wrote}
 use Rattle.saving.proofs.Lent.write.Given as goal
 
@@ -17,5 +18,5 @@ invariant-loop-k l =
     let k = enumerate_count l.k-iterator in record {
       at : Passing n w k (chunks_exact_size (enumerate_source l.k-iterator)) (chunks_exact_rest (enumerate_source l.k-iterator));
       there : l.out.bytes.ghost_name ≡ l.initial.out.bytes.ghost_name;
-      wrote : Wrote (acts_at n (picks n w)) (length w / n) l.initial.out.at l.initial.out.bytes.now l.out.bytes.now l.out.at k;
+      wrote : Wrote (acts_at n (picks_of l.self)) (length w / n) l.initial.out.at l.initial.out.bytes.now l.out.bytes.now l.out.at k;
     }
