@@ -103,7 +103,7 @@ fn go_over(
     ensures { GoneOver writes (recording_at limit (length out.old) bytes.now start) out.old result out.new }
 {
     let n = commands::head_at(bytes, start, limit, out.len())?;
-    let mut links = lists::no_words();
+    let mut links = lists::zeroed::<32>();
     go_over_commands(bytes, start + 2, limit, &mut links[..n], out, writes)
 }
 
