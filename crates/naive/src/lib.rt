@@ -59,6 +59,13 @@ impl Recording<'_> {
         self.words.get(p * self.boards + u).copied().unwrap_or(0)
     }
 
+    // Whether the link from a to b is open at pick p.
+    pub fn is_open(&self, p: usize, a: usize, b: usize) -> bool
+        requires { (p < 4096) × ((a < 32) × (b < 32)) }
+    {
+        has(self.word(p, a), b)
+    }
+
     fn has_all(&self, set: u32) -> bool {
         (0..self.boards).all(|u| has(set, u))
     }
