@@ -1,8 +1,11 @@
 -- What a part stores of a table: all that the proofs above these laws know of it. Assumes nothing.
 use mathlib.Core.Path.{◌≡◌, refl, ap, ◌∙◌}
 use mathlib.Core.List.{List}
-use Prim.Native.Nat.{ℕ, ◌-◌, ◌*◌, ◌≤◌}
-use native.Mathlib.Nat.{le_refl}
+use Prim.Native.Nat.{ℕ, ◌+◌, ◌-◌, ◌*◌, ◌≤◌}
+use native.Mathlib.Nat.{le_refl, add-sub_cancel_left}
+use Rattle.std.specs.List.{copy_within}
+use Rattle.std.proofs.lemmas.List.{drop-drop}
+use Rattle.std.proofs.Common.{append_assoc}
 use lib.ListN.{length, take, drop}
 use Rattle.lists.specs.Tab.{splice}
 use Rattle.measures.specs.Kit.{Kit}
@@ -44,6 +47,11 @@ module _ (K : Kit) (a : List ℕ) (i : ℕ) {e k : ℕ} (p : e ≡ part_size K) 
   pub onto_lent : (f : List ℕ → List ℕ) → splice ((i - 1) * e) k (f (take k (drop ((i - 1) * e) a))) a ≡ put_table K a i (f (table_at K a i))
   unfolding table stored part stored_size
   onto_lent f = rw (p, q)
+
+-- k words copied within the area
+pub copied_within : (k at from : ℕ) (a : List ℕ) → copy_within a from (from + k) at ≡ splice at k (take k (drop from a)) a
+unfolding splice
+copied_within k at from a = simp (add-sub_cancel_left, drop-drop, append_assoc)
 
 -- a table read from part l and written to part i
 pub copy_lent : (K : Kit) (a : List ℕ) (i l : ℕ) {e k : ℕ} → e ≡ part_size K → k ≡ K.size

@@ -18,22 +18,13 @@ pub fn width(measure: usize, n: usize) -> usize
     measures::size(measure, n)
 }
 
-// ---- tables copied out of a part and into one: k words each, from where the part begins by e, which is E
-
+// The table of part i, k words from where the part begins by e, which is E, copied out.
 fn take_table(out: &mut [u32], area: &[u32], e: usize, k: usize, i: usize)
     requires { (k ≡ length out.old) × (k ≤ e) × Has e (length area.now) i }
     ensures { out.new ≡ take k (drop ((i - 1) * e) area.now) }
 {
     let at = (i - 1) * e;
-    lists::copy_over(out, &area[at..at + k], k);
-}
-
-fn write_table(area: &mut [u32], words: &[u32], e: usize, k: usize, d: usize)
-    requires { (k ≡ length words.now) × (k ≤ e) × Has e (length area.old) d }
-    ensures { area.new ≡ splice ((d - 1) * e) k words.now area.old }
-{
-    let at = (d - 1) * e;
-    lists::copy_over(&mut area[at..at + k], words, k);
+    out.copy_from_slice(&area[at..at + k]);
 }
 
 // ---- one part written
@@ -45,7 +36,8 @@ pub fn put_table(area: &mut [u32], words: &[u32], measure: usize, n: usize, d: u
 {
     let e = width(measure, n);
     let k = measures::size(measure, n);
-    write_table(area, words, e, k, d);
+    let at = (d - 1) * e;
+    area[at..at + k].copy_from_slice(words);
 }
 
 // Composes words, the later table, onto the table of part d, the earlier: for the measures whose tables compose word by word.
@@ -161,33 +153,6 @@ pub fn compose_own(
     compose_with(area, words, measure, n, d);
 }
 
-// Copies by way of words, which takes the copy. Both sizes are handed in, so that what is compiled for either array below is one move of memory.
-fn copy_by(area: &mut [u32], words: &mut [u32], e: usize, k: usize, d: usize, l: usize)
-    requires { (k ≡ length words.old) × (k ≤ e) × Has e (length area.old) d × Has e (length area.old) l }
-    ensures { area.new ≡ splice ((d - 1) * e) k (take k (drop ((l - 1) * e) area.old)) area.old }
-{
-    take_table(words, area, e, k, l);
-    write_table(area, words, e, k, d);
-}
-
-// Copies where a table is no longer than 32 words.
-fn copy_links(area: &mut [u32], e: usize, k: usize, d: usize, l: usize)
-    requires { (k ≤ 32) × (k ≤ e) × Has e (length area.old) d × Has e (length area.old) l }
-    ensures { area.new ≡ splice ((d - 1) * e) k (take k (drop ((l - 1) * e) area.old)) area.old }
-{
-    let mut words = lists::no_words();
-    copy_by(area, &mut words[0..k], e, k, d, l);
-}
-
-// Copies a table of up to 2048 words, as only measure 4 has.
-fn copy_times(area: &mut [u32], e: usize, k: usize, d: usize, l: usize)
-    requires { (k ≤ 2048) × (k ≤ e) × Has e (length area.old) d × Has e (length area.old) l }
-    ensures { area.new ≡ splice ((d - 1) * e) k (take k (drop ((l - 1) * e) area.old)) area.old }
-{
-    let mut words = lists::no_times();
-    copy_by(area, &mut words[0..k], e, k, d, l);
-}
-
 // The table of part l becomes that of part d; d may be l.
 pub fn copy_part(area: &mut [u32], measure: usize, n: usize, d: usize, l: usize)
     requires { (n ≤ 32) × (Has (width_of measure n) (length area.old) d × Has (width_of measure n) (length area.old) l) }
@@ -195,11 +160,8 @@ pub fn copy_part(area: &mut [u32], measure: usize, n: usize, d: usize, l: usize)
 {
     let e = width(measure, n);
     let k = measures::size(measure, n);
-    if measure == 4 {
-        copy_times(area, e, k, d, l);
-        return;
-    }
-    copy_links(area, e, k, d, l);
+    let from = (l - 1) * e;
+    area.copy_within(from..from + k, (d - 1) * e);
 }
 
 // Part d becomes zero.

@@ -14,7 +14,8 @@ use Rattle.lists.specs.Tab.{zeros, splice}
 use Rattle.lists.proofs.Tab.{length-zeros}
 use Rattle.links.specs.Tables.{union}
 use Rattle.links.specs.Picks.{lent_pick, united_picks}
-use Rattle.links.proofs.Picks.{lent_long, first_lent, length_united}
+use Rattle.links.proofs.Picks.{lent_long, length_united}
+use Rattle.links.proofs.Chunks.{Behind, Turn, first_words, behind_all, behind_turn, behind_none}
 use Rattle.measures.specs.Kit.{Kit, kit}
 use Rattle.measures.proofs.Words.{size_links}
 use Rattle.area.specs.Parts.{stored, table, part_size, width_of, table_at, put_part, zero_at, zeroed}
@@ -54,11 +55,11 @@ length-unions n w zero room = length-zeros n
 length-unions n w (suc k) room = ap length (unions_united n w k) ∙ length_united n _ w 1 k (lent_long n 0 (suc k) w room (omega arith))
 
 -- t is pick 1 as code copies it
-pub unions_made : (n m : ℕ) (w t s : List ℕ) → 1 ≤ m → t ≡ take (n - 0) w → s ≡ united_picks n t w 1 (m - 1) → s ≡ unions n w m
+pub unions_made : (n m : ℕ) (w t s : List ℕ) → 1 ≤ m → t ≡ take n w → s ≡ united_picks n t w 1 (m - 1) → s ≡ unions n w m
 unions_made n zero w t s h e f = absurd (omega arith)
 unions_made n (suc k) w t s h e f =
     let i : suc k - 1 ≡ k = omega arith in
-    f ∙ ap₂ (λ (x : List ℕ) (y : ℕ). united_picks n x w 1 y) (e ∙ first_lent n w) i ∙ sym (unions_united n w k)
+    f ∙ ap₂ (λ (x : List ℕ) (y : ℕ). united_picks n x w 1 y) (e ∙ first_words n w) i ∙ sym (unions_united n w k)
 
 -- ---- the start
 
@@ -227,6 +228,34 @@ along_end {p} {q} {w} {a} {b} {m} {k} g s h =
       (ap (λ (x : State). x.place) s', ap (λ (x : State). x.area) s'),
       record { inside = λ y. g.ready.inside (omega arith); all-taken = omega arith; beyond = g.beyond },
     )
+
+-- ---- the loop over the picks
+
+-- the first k are taken, and the words of the others are left
+pub record Bared (p : Place) (w a : List ℕ) (m k : ℕ) (rest : List ℕ) (q : Place) (b : List ℕ) : Type 0 where
+  pub behind : Behind p.settings.boards m w k rest
+  pub after : AfterPicks p w a m k q b
+  pub stepped : state q b ≡ bare_steps (kit_of p.settings) p.settings.boards w k (state p a)
+
+pub bared_start : {p : Place} {w a : List ℕ} {m : ℕ} → Starts p m w a → Bared p w a m 0 (take (m * p.settings.boards) w) p a
+bared_start {p} {w} {a} {m} s = record { behind = behind_all p.settings.boards m w; after = along_start p w a m s; stepped = bare_none _ _ _ _ }
+
+module _ {p q : Place} {w a rest b : List ℕ} {m k : ℕ} (g : Bared p w a m k rest q b) where
+  -- one pick more
+  pub bared_turn : {x rest' : List ℕ} → 1 ≤ p.settings.boards → rest ≡ x ++ rest' → length x ≡ p.settings.boards
+      → Turn {m = m} g.after.starts.words g.behind x rest'
+  bared_turn some e l = behind_turn g.after.starts.words g.behind some e l
+
+  pub bared_takes : {x rest' : List ℕ} → Turn g.after.starts.words g.behind x rest' → Takes q (length b) (length x)
+  bared_takes t = subst (λ (x : List ℕ). Takes q (length b) (length x)) (sym t.pick) (along_takes g.after t.more)
+
+  pub bared_next : {x rest' d : List ℕ} {r : Place} → Turn g.after.starts.words g.behind x rest' → Does (bare_step (kit_of q.settings) x) q b r d
+      → Bared p w a m (k + 1) rest' r d
+  bared_next t e =
+      let f = rw t.pick at e in record { behind = t.behind; after = along_bare g.after t.more f; stepped = bare_next g.after g.stepped f }
+
+  pub bared_end : length rest < p.settings.boards → Does (bare_steps (kit_of p.settings) p.settings.boards w m) p a q b × Ends p m a q b
+  bared_end h = let e = behind_none g.after.starts.words g.behind h in along_end g.after g.stepped (omega arith)
 
 -- ---- the steps of the walk
 

@@ -1,13 +1,11 @@
 -- Document 01's number and values for each case of each answer. The promises of the calls speak of these.
-use Rattle.std.specs.Prelude.{ℕ, cond, eqb}
+use Rattle.std.specs.Prelude.{ℕ, cond, eqb, Result, Ok, Err}
+use Rattle.model.specs.declared.Refusal.{Refusal}
 use Rattle.model.specs.Refusals.{number}
 use Rattle.place.specs.declared.Place.{Place}
-use Rattle.calls.specs.declared.Opening.{Opening}
-use Rattle.calls.specs.declared.Opening.TheVariants.{Opened, NotOpened}
-use Rattle.calls.specs.declared.Taking.{Taking}
-use Rattle.calls.specs.declared.Taking.TheVariants.{Taken, NotTaken}
+use Rattle.place.specs.declared.Counts.{Counts}
+use Rattle.calls.specs.declared.Refused.{Refused}
 use Rattle.calls.specs.declared.Answer.{Answer}
-use Rattle.calls.specs.declared.Answer.TheVariants.{Length, Refused}
 
 -- the number of the refusal, 0 for none, and the place that is handed back
 pub record Handed : Type 0 where
@@ -31,17 +29,15 @@ outcome c k x y = record { refusal = c; length = k; compositions = x; tests = y 
 abbrev pub answer_by : ℕ → Outcome → Outcome
 answer_by c o = cond (eqb c 0) o (outcome c 0 0 0)
 
--- opening answers the place
-abbrev pub opening_says : Opening → Handed
-opening_says (Opened p) = handed 0 p
-opening_says (NotOpened p c) = handed (number c) p
-
--- a pick taken answers yes
-abbrev pub taking_says : Taking → Handed
-taking_says (Taken p) = handed 0 p
-taking_says (NotTaken p c) = handed (number c) p
+-- opening, and a pick taken, answer the place; refused, the number and the place that is handed back
+abbrev pub handed_says : Result Place Refused → Handed
+handed_says (Ok p) = handed 0 p
+handed_says (Err r) = handed (number r.cause) r.place
 
 -- a length with its two counts, or the number with the counts
+abbrev pub counted_says : Result ℕ Refusal → Counts → Outcome
+counted_says (Ok k) c = outcome 0 k c.compositions.0 c.tests.0
+counted_says (Err r) c = outcome (number r) 0 c.compositions.0 c.tests.0
+
 abbrev pub answer_says : Answer → Outcome
-answer_says (Length k c t) = outcome 0 k c.0 t.0
-answer_says (Refused r c t) = outcome (number r) 0 c.0 t.0
+answer_says a = counted_says a.length a.counts

@@ -2,48 +2,54 @@
 #![tactic(auto)]
 
 ghost use Rattle.std.specs.Prelude.{◌≡◌, ◌≢◌, ◌-◌, ◌*◌, ◌≤◌, length};
+ghost use Rattle.measures.specs.Kit.{size_of};
 ghost use Rattle.area.specs.Parts.{zeroed};
 ghost use Rattle.place.specs.Places.{charged};
 ghost use Rattle.verdicts.specs.Verdicts.{needed};
 ghost use Rattle.verdicts.specs.Fit.{Clears, Runs};
 ghost use Rattle.steps.specs.Walk.{kit_of, stepped, reported};
 ghost use Rattle.steps.specs.Fit.{Lends, Takes, Does};
-ghost use Rattle.calls.specs.Answers.{opening_says, taking_says, answer_says};
+ghost use Rattle.model.specs.Refusals.{number};
+ghost use Rattle.calls.specs.Answers.{outcome, handed_says, answer_says};
 ghost use Rattle.calls.specs.Fit.{Starts, Begins, Ends};
 ghost use Rattle.calls.specs.Calls.{opened_area, open_says, open_leaves, pick_says, pick_leaves, report_says, length_says};
 ghost use Rattle.calls.specs.Calls.{unions, bare_steps, whole_report, whole_says, whole_leaves};
 
-use model::{Compositions, Refusal, Tests};
-use place::Place;
+use model::Refusal;
+use place::{Counts, Place};
 use steps::Mode;
-use verdicts::Verdict;
 
-// Opening answers the place, or a cause with the place of zeros and noes.
-#[derive(Clone, Copy)]
-pub enum Opening {
-    Opened(Place),
-    NotOpened(Place, Refusal),
+// What stands against a place: the cause, and the place that is handed back. That is zeros and noes for an opening, and the place as it was for a pick.
+#[derive(Clone, Copy, PartialEq, Eq)]
+pub struct Refused {
+    pub place: Place,
+    pub cause: Refusal,
 }
 
-// A pick taken answers yes with the place, or a cause with the place as it was.
-#[derive(Clone, Copy)]
-pub enum Taking {
-    Taken(Place),
-    NotTaken(Place, Refusal),
-}
-
-// A length with its two counts, or a cause: with the counts where no length exists, with counts 0 otherwise.
-#[derive(Clone, Copy)]
-pub enum Answer {
-    Length(usize, Compositions, Tests),
-    Refused(Refusal, Compositions, Tests),
+// A length or a cause, with both counts. They are 0 where a cause other than 9 refuses.
+#[derive(Clone, Copy, PartialEq, Eq)]
+pub struct Answer {
+    pub length: Result<usize, Refusal>,
+    pub counts: Counts,
 }
 
 // The length call hands the place back beside its answer.
-#[derive(Clone, Copy)]
+#[derive(Clone, Copy, PartialEq, Eq)]
 pub struct Measured {
     pub place: Place,
     pub answer: Answer,
+}
+
+impl Answer {
+    // Refused before anything was counted.
+    pub fn refused(cause: Refusal) -> Answer
+        ensures { answer_says result ≡ outcome (number cause) 0 0 0 }
+    {
+        Answer {
+            length: Err(cause),
+            counts: Counts::NONE,
+        }
+    }
 }
 
 // ---- opening
@@ -70,94 +76,89 @@ fn open_area(n: usize, measure: usize, limit: usize, footprint: &[u32], area: &m
 }
 
 // Opens a walk over n boards.
-pub fn open(n: usize, measure: usize, limit: usize, footprint: &[u32], area: &mut [u32]) -> Opening
-    ensures { (opening_says result ≡ open_says n measure limit footprint.now area.old)
+#[tactic(auto, using(model::proofs::Refusals::number_some, verdicts::proofs::Verdicts::open_sound, verdicts::proofs::Verdicts::open_clears), unfolding(crate::specs::Calls::open_says, crate::specs::Calls::open_leaves, place::specs::Places::nowhere))]
+pub fn open(
+    n: usize,
+    measure: usize,
+    limit: usize,
+    footprint: &[u32],
+    area: &mut [u32],
+) -> Result<Place, Refused>
+    ensures { (handed_says result ≡ open_says n measure limit footprint.now area.old)
         × (area.new ≡ open_leaves n measure limit footprint.now area.old) }
 {
-    match verdicts::open_verdict(n, measure, limit, footprint, area) {
-        Verdict::Clear => {
-            open_area(n, measure, limit, footprint, area);
-            Opening::Opened(Place::open(measure, n, limit))
-        }
-        Verdict::Refuse(c) => Opening::NotOpened(Place::NOWHERE, c),
-    }
+    let place = Place::NOWHERE;
+    verdicts::open_verdict(n, measure, limit, footprint, area)
+        .map_err(|cause| Refused { place, cause })?;
+    open_area(n, measure, limit, footprint, area);
+    Ok(Place::open(measure, n, limit))
 }
 
 // ---- pick
 
-// One step under measures 1 to 3, with room for the copy of a table of links.
-fn step_links(p: Place, area: &mut [u32], words: &[u32]) -> Place
-    requires { Takes p (length area.old) (length words.now) × (p.settings.measure ≢ 4) }
+// One step, with room for the copy of a table of up to W words.
+fn step_in<const W: usize>(p: Place, area: &mut [u32], words: &[u32]) -> Place
+    requires { Takes p (length area.old) (length words.now) × (size_of p.settings.measure p.settings.boards ≤ W) × (W ≤ 2048) }
     ensures { Does (stepped (kit_of p.settings) words.now) p area.old result area.new }
 {
-    let n = p.settings.boards;
-    let mut right = lists::no_words();
-    steps::step(p, area, words, &mut right[0..n], Mode::Kept)
+    let k = measures::size(p.settings.measure, p.settings.boards);
+    let mut right = lists::zeroed::<W>();
+    steps::step(p, area, words, &mut right[..k], Mode::Kept)
 }
 
-// One step under measure 4, with room for the copy of a table of times.
-fn step_times(p: Place, area: &mut [u32], words: &[u32]) -> Place
-    requires { Takes p (length area.old) (length words.now) × (p.settings.measure ≡ 4) }
-    ensures { Does (stepped (kit_of p.settings) words.now) p area.old result area.new }
-{
-    let n = p.settings.boards;
-    let k = measures::size(4, n);
-    let mut right = lists::no_times();
-    steps::step(p, area, words, &mut right[0..k], Mode::Kept)
-}
-
+// A table of times has 2,048 words at most, one of links 32.
 fn take_pick(p: Place, area: &mut [u32], words: &[u32]) -> Place
     requires { Takes p (length area.old) (length words.now) }
     ensures { Does (stepped (kit_of p.settings) words.now) p area.old result area.new }
 {
     if p.settings.measure == 4 {
-        return step_times(p, area, words);
+        return step_in::<2048>(p, area, words);
     }
-    step_links(p, area, words)
+    step_in::<32>(p, area, words)
 }
 
 // Takes a pick: one step of the walk.
-pub fn pick(p: Place, area: &mut [u32], words: &[u32]) -> Taking
-    ensures { (taking_says result ≡ pick_says p area.old words.now)
+#[tactic(auto, using(model::proofs::Refusals::number_some), unfolding(crate::specs::Calls::pick_state))]
+pub fn pick(p: Place, area: &mut [u32], words: &[u32]) -> Result<Place, Refused>
+    ensures { (handed_says result ≡ pick_says p area.old words.now)
         × (area.new ≡ pick_leaves p area.old words.now) }
 {
-    match verdicts::pick_verdict(p, area, words) {
-        Verdict::Clear => Taking::Taken(take_pick(p, area, words)),
-        Verdict::Refuse(c) => Taking::NotTaken(p, c),
-    }
+    verdicts::pick_verdict(p, area, words).map_err(|cause| Refused { place: p, cause })?;
+    Ok(take_pick(p, area, words))
 }
 
 // ---- length
 
 // The answer of a place that is sound and has a pick: a length, or 9 with the counts.
+#[tactic(auto, unfolding(steps::specs::Walk::reported))]
 fn report(p: Place) -> Answer
     requires { (p.window.start.0 ≤ p.window.taken.0) × (p.window.taken.0 ≤ 4096) }
     ensures { answer_says result ≡ report_says (reported p) p }
 {
     let m = p.window.taken.0;
     let s = p.window.start.0;
-    let c = p.counts.compositions;
-    let t = p.counts.tests;
-    if p.marks.passed {
-        return Answer::Length(m + 1 - s, c, t);
+    let length = if p.marks.passed {
+        Ok(m + 1 - s)
+    } else if p.settings.measure != 1 && 1 < s {
+        Ok(m + 2 - s)
+    } else {
+        Err(Refusal::NoLength)
+    };
+    Answer {
+        length,
+        counts: p.counts,
     }
-    if p.settings.measure == 1 {
-        return Answer::Refused(Refusal::NoLength, c, t);
-    }
-    if 1 < s {
-        return Answer::Length(m + 2 - s, c, t);
-    }
-    Answer::Refused(Refusal::NoLength, c, t)
 }
 
+#[tactic(auto, using(place::proofs::Laws::sound_says), unfolding(model::specs::Causes::first_of, crate::specs::Calls::length_says))]
 fn length_of(p: Place) -> Answer
     ensures { answer_says result ≡ length_says p }
 {
     if !p.is_sound() {
-        return Answer::Refused(Refusal::BadPlace, Compositions(0), Tests(0));
+        return Answer::refused(Refusal::BadPlace);
     }
     if p.window.taken.0 == 0 {
-        return Answer::Refused(Refusal::NoPick, Compositions(0), Tests(0));
+        return Answer::refused(Refusal::NoPick);
     }
     report(p)
 }
@@ -166,10 +167,9 @@ fn length_of(p: Place) -> Answer
 pub fn length(p: Place) -> Measured
     ensures { (answer_says result.answer ≡ length_says p) × (result.place ≡ p) }
 {
-    let answer = length_of(p);
     Measured {
         place: p,
-        answer: answer,
+        answer: length_of(p),
     }
 }
 
@@ -180,7 +180,7 @@ fn make_footprint(p: Place, words: &[u32], n: usize, m: usize, out: &mut [u32]) 
     requires { (n ≡ length out.old) × (n ≤ 32) × (1 ≤ m) × (m ≤ 4096) × (m * n ≤ length words.now) × (p.counts.compositions.0 ≡ 0) }
     ensures { (result ≡ charged p (m - 1)) × (out.new ≡ unions n words.now m) }
 {
-    lists::copy_over(out, &words[0..n], n);
+    out.copy_from_slice(&words[..n]);
     let made = links::unite_picks(out, words, n, 1, m);
     p.charged(made)
 }
@@ -204,54 +204,41 @@ pub fn whole_start(n: usize, measure: usize, words: &[u32], m: usize, area: &mut
 // All picks, one after the other, by the unchecked step: a count that starts at m - 1 would be refused as 16. The area is not kept, and once measure 1
 // has ended the picks that are left only count.
 fn whole_steps(p: Place, area: &mut [u32], words: &[u32], m: usize, right: &mut [u32]) -> Place
-    requires { Starts p m words.now area.old × Lends p.settings (length right.old) }
+    requires { Starts p m words.now area.old × (1 ≤ p.settings.boards) × Lends p.settings (length right.old) }
     ensures { Does (bare_steps (kit_of p.settings) p.settings.boards words.now m) p area.old result area.new
         × Ends p m area.old result area.new }
 {
     let n = p.settings.boards;
     let mut q = p;
-    for k in 0..m {
+    for pick in words[..m * n].chunks_exact(n) {
         if steps::is_finished(q) {
-            return q.picks_taken(m - k);
+            return q.picks_taken(m - q.window.taken.0);
         }
-        let at = k * n;
-        q = steps::step(q, area, &words[at..at + n], right, Mode::Unkept);
+        q = steps::step(q, area, pick, right, Mode::Unkept);
     }
     q
 }
 
-// The same with room for the copy of a table of links, made once for all picks.
-fn whole_links(p: Place, area: &mut [u32], words: &[u32], m: usize) -> Place
-    requires { Starts p m words.now area.old × (p.settings.measure ≢ 4) }
+// The same with room for the copy of a table of up to W words, made once for all picks.
+fn whole_in<const W: usize>(p: Place, area: &mut [u32], words: &[u32], m: usize) -> Place
+    requires { Starts p m words.now area.old × (1 ≤ p.settings.boards) × (size_of p.settings.measure p.settings.boards ≤ W) × (W ≤ 2048) }
     ensures { Does (bare_steps (kit_of p.settings) p.settings.boards words.now m) p area.old result area.new
         × Ends p m area.old result area.new }
 {
-    let n = p.settings.boards;
-    let mut right = lists::no_words();
-    whole_steps(p, area, words, m, &mut right[0..n])
-}
-
-// The same with room for the copy of a table of times.
-fn whole_times(p: Place, area: &mut [u32], words: &[u32], m: usize) -> Place
-    requires { Starts p m words.now area.old × (p.settings.measure ≡ 4) }
-    ensures { Does (bare_steps (kit_of p.settings) p.settings.boards words.now m) p area.old result area.new
-        × Ends p m area.old result area.new }
-{
-    let n = p.settings.boards;
-    let k = measures::size(4, n);
-    let mut right = lists::no_times();
-    whole_steps(p, area, words, m, &mut right[0..k])
+    let k = measures::size(p.settings.measure, p.settings.boards);
+    let mut right = lists::zeroed::<W>();
+    whole_steps(p, area, words, m, &mut right[..k])
 }
 
 fn take_picks(p: Place, area: &mut [u32], words: &[u32], m: usize) -> Place
-    requires { Starts p m words.now area.old }
+    requires { Starts p m words.now area.old × (1 ≤ p.settings.boards) }
     ensures { Does (bare_steps (kit_of p.settings) p.settings.boards words.now m) p area.old result area.new
         × Ends p m area.old result area.new }
 {
     if p.settings.measure == 4 {
-        return whole_times(p, area, words, m);
+        return whole_in::<2048>(p, area, words, m);
     }
-    whole_links(p, area, words, m)
+    whole_in::<32>(p, area, words, m)
 }
 
 // A whole run that nothing refuses. It never reads what the area held, and the needed words end zero.
@@ -267,15 +254,13 @@ fn whole_run(n: usize, measure: usize, words: &[u32], m: usize, area: &mut [u32]
 }
 
 // The length of a recording lent whole, n words a pick, with the counts.
+#[tactic(auto, using(model::proofs::Refusals::number_some, verdicts::proofs::Verdicts::whole_sound), unfolding(crate::specs::Calls::whole_says, crate::specs::Calls::whole_leaves))]
 pub fn whole(n: usize, measure: usize, words: &[u32], area: &mut [u32]) -> Answer
     ensures { (answer_says result ≡ whole_says n measure words.now area.old)
         × (area.new ≡ whole_leaves n measure words.now area.old) }
 {
     match verdicts::whole_verdict(n, measure, words, area) {
-        Verdict::Clear => {
-            let m = words.len() / n;
-            whole_run(n, measure, words, m, area)
-        }
-        Verdict::Refuse(c) => Answer::Refused(c, Compositions(0), Tests(0)),
+        Ok(()) => whole_run(n, measure, words, words.len() / n, area),
+        Err(cause) => Answer::refused(cause),
     }
 }

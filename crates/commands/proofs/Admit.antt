@@ -1,12 +1,14 @@
 -- What is known of a command that was not refused. Assumes nothing.
-use mathlib.Core.Path.{◌≡◌, refl, sym, ap, ◌∙◌, subst}
-use mathlib.Core.Bool.{Bool, true, false, ◌||◌, not, true≢false}
+use mathlib.Core.Path.{◌≡◌, refl, sym, ap, ◌∙◌}
+use mathlib.Core.Bool.{Bool, true, false, not, true≢false}
 use mathlib.Core.List.{List, [], ◌∷◌, ◌++◌}
 use Prim.Native.Nat.{ℕ, ◌+◌, ◌*◌, ◌≤◌, ◌<◌}
 use native.Mathlib.Omega.{arith}
 use borrow.Author.Tests.{ltb-false, leb-false, eqb-false, lt-ltb}
 use lib.Dec.{eqb, leb}
 use lib.ListN.{length, get_or}
+use Rattle.std.specs.Prelude.{Option, None, Some, Result, Ok, Err}
+use Rattle.std.proofs.lemmas.Bool.{or_parts}
 use Rattle.model.specs.declared.Board.{Board}
 use Rattle.model.specs.declared.Refusal.{Refusal}
 use Rattle.model.specs.declared.Refusal.TheVariants as cause
@@ -14,21 +16,12 @@ use Rattle.model.specs.Recording.{link}
 use Rattle.model.specs.Causes.{between, NoneHolds, RefusalCauses, first_or, by_number}
 use Rattle.model.proofs.Causes.{none_refused, holds_by, between_says}
 use Rattle.commands.specs.declared.Command.{Command}
-use Rattle.commands.specs.declared.Command.TheVariants.{Boards, Later, Not}
+use Rattle.commands.specs.declared.Command.TheVariants.{Boards, Later}
+use Rattle.commands.specs.declared.Item.{Item}
 use Rattle.commands.specs.declared.Item.TheVariants.{Link, Pick, End}
-use Rattle.commands.specs.declared.Arity.{Arity}
-use Rattle.commands.specs.declared.Arity.TheVariants.{Known, Unknown}
 use Rattle.commands.specs.Commands.{arity_of, misplaced, is_unknown, operands_of, unreadable, spelled_at, operands_in}
-use Rattle.commands.specs.Causes.{no_link, unchanged, boards_causes, later_causes, head_at, next}
+use Rattle.commands.specs.Causes.{no_link, unchanged, boards_causes, later_causes, boards_in, item_in, head_at, next}
 use Rattle.commands.proofs.Table.{arity_law}
-
-or_false_left : (a b : Bool) → (a || b) ≡ false → a ≡ false
-or_false_left true b e = absurd (true≢false e)
-or_false_left false b e = refl
-
-or_false_right : (a b : Bool) → (a || b) ≡ false → b ≡ false
-or_false_right true b e = absurd (true≢false e)
-or_false_right false b e = e
 
 pub record Linkable (n a b : ℕ) : Type 0 where
   pub apart : a ≡ b → ⊥
@@ -37,88 +30,84 @@ pub record Linkable (n a b : ℕ) : Type 0 where
 
 pub linkable : (n a b : ℕ) → no_link n a b ≡ false → Linkable n a b
 linkable n a b e =
-    let r = or_false_right (eqb a b) _ e in
-    record {
-      apart = eqb-false a b (or_false_left (eqb a b) _ e);
-      from = leb-false n a (or_false_left (leb n a) (leb n b) r);
-      to = leb-false n b (or_false_right (leb n a) (leb n b) r);
-    }
-
--- the two operands of a link that is able: an index of the links, and a shift
-pub in_links : (n a b k : ℕ) → no_link n a b ≡ false → n ≡ k → n ≤ 32 → (a < k) × (b < 32)
-in_links n a b k e q h = let l = linkable n a b e in let f = l.from in let t = l.to in (omega arith, omega arith)
-
--- two constructors are never equal: `no cc`
-pub no : ◌≡◌ {A = ℕ} 0 1 → ⊥
-no e = omega arith
+    let p = or_parts (eqb a b) _ e in
+    let q = or_parts (leb n a) (leb n b) p.1 in
+    record { apart = eqb-false a b p.0; from = leb-false n a q.0; to = leb-false n b q.1 }
 
 -- ---- a command that is taken
 
 -- its byte is in the table and in its place, its operands are within the file, and of its own causes none holds
-pub record Stood (own : Command → RefusalCauses) (Q : Command → Type 0) (first : Bool) (bytes : List ℕ) (at : ℕ) : Type 0 where
+pub record Stood {A : Type 0} (own : Command → RefusalCauses) (part : Command → Result A Refusal) (Q : Result A Refusal → Type 0)
+    (first : Bool) (bytes : List ℕ) (at : ℕ) : Type 0 where
   pub operands : ℕ
-  pub arity : arity_of (get_or bytes at 0) ≡ Known operands
+  pub arity : arity_of (get_or bytes at 0) ≡ Some operands
   pub placed : misplaced first (get_or bytes at 0) ≡ false
   pub within : at + 1 + operands ≤ length bytes
   pub fits : NoneHolds (by_number (own (spelled_at bytes at)))
-  pub says : Q (spelled_at bytes at)
+  pub says : Q (part (spelled_at bytes at))
 
--- `Q` holds of no refused command
-pub stood : (own : Command → RefusalCauses) (Q : Command → Type 0) → ((r : Refusal) → Q (Not r) → ⊥)
-    → (first : Bool) (bytes : List ℕ) (at : ℕ)
-    → Q (first_or Not (unreadable first bytes at ++ own (spelled_at bytes at)) (spelled_at bytes at)) → Stood own Q first bytes at
-stood own Q never first bytes at q =
-    let p = none_refused Not Q never (unreadable first bytes at ++ own (spelled_at bytes at)) (spelled_at bytes at) q in
+-- `Q` holds of no refusal
+pub stood : {A : Type 0} (own : Command → RefusalCauses) (part : Command → Result A Refusal) (Q : Result A Refusal → Type 0)
+    → ((r : Refusal) → Q (Err r) → ⊥) → (first : Bool) (bytes : List ℕ) (at : ℕ)
+    → Q (first_or Err (unreadable first bytes at ++ own (spelled_at bytes at)) (part (spelled_at bytes at))) → Stood own part Q first bytes at
+stood own part Q never first bytes at q =
+    let p = none_refused Err Q never (unreadable first bytes at ++ own (spelled_at bytes at)) (part (spelled_at bytes at)) q in
     let n = p.0 in
     let m = misplaced first (get_or bytes at 0) in
     let w = arity_of (get_or bytes at 0) in
     let h = ltb-false (length bytes) (at + 1 + operands_of w) n.1.0 in
-    let t = rw (lt-ltb at (length bytes) (omega arith)) at n.0 in
-    by w refl (or_false_left m (is_unknown w) t) (or_false_right m (is_unknown w) t) h n.1.1 p.1
+    let t = or_parts m (is_unknown w) (rw (lt-ltb at (length bytes) (omega arith)) at n.0) in
+    by w refl t.0 t.1 h n.1.1 p.1
   where
-    by : (w : Arity) → arity_of (get_or bytes at 0) ≡ w → misplaced first (get_or bytes at 0) ≡ false → is_unknown w ≡ false
+    by : (w : Option ℕ) → arity_of (get_or bytes at 0) ≡ w → misplaced first (get_or bytes at 0) ≡ false → is_unknown w ≡ false
         → at + 1 + operands_of w ≤ length bytes
-        → NoneHolds (by_number (own (spelled_at bytes at))) → Q (spelled_at bytes at) → Stood own Q first bytes at
-    by (Known k) i m u h f q = record { operands = k; arity = i; placed = m; within = h; fits = f; says = q }
-    by Unknown i m u h f q = absurd (true≢false u)
+        → NoneHolds (by_number (own (spelled_at bytes at))) → Q (part (spelled_at bytes at)) → Stood own part Q first bytes at
+    by (Some k) i m u h f q = record { operands = k; arity = i; placed = m; within = h; fits = f; says = q }
+    by None i m u h f q = absurd (true≢false u)
 
--- y is no refusal
-abbrev Taken : Command → Type 0
-Taken (Boards n) = Unit {0}
-Taken (Later i) = Unit {0}
-Taken (Not r) = ⊥
-
--- as the command y
-pub record StoodAs (own : Command → RefusalCauses) (first : Bool) (bytes : List ℕ) (at : ℕ) (y : Command) : Type 0 where
-  pub stands : Stood own (λ (z : Command). z ≡ y) first bytes at
+-- as the command y, of which `part` takes x
+pub record StoodAs {A : Type 0} (own : Command → RefusalCauses) (part : Command → Result A Refusal) (first : Bool) (bytes : List ℕ) (at : ℕ)
+    (x : A) (y : Command) : Type 0 where
+  pub stands : Stood own part (λ (z : Result A Refusal). z ≡ Ok x) first bytes at
+  pub spelled : spelled_at bytes at ≡ y
   pub inside : at + 1 + operands_in y ≤ length bytes
   pub fits : NoneHolds (by_number (own y))
 
-stood_as : (own : Command → RefusalCauses) (first : Bool) (bytes : List ℕ) (at : ℕ) (y : Command)
-    → first_or Not (unreadable first bytes at ++ own (spelled_at bytes at)) (spelled_at bytes at) ≡ y → Taken y → StoodAs own first bytes at y
-stood_as own first bytes at y e h =
-    let s = stood own (λ (z : Command). z ≡ y) (λ r i. subst Taken (sym i) h) first bytes at e in
+stood_as : {A : Type 0} (own : Command → RefusalCauses) (part : Command → Result A Refusal) (first : Bool) (bytes : List ℕ) (at : ℕ) (x : A)
+    (y : Command) → ((z : Command) → part z ≡ Ok x → z ≡ y)
+    → first_or Err (unreadable first bytes at ++ own (spelled_at bytes at)) (part (spelled_at bytes at)) ≡ Ok x → StoodAs own part first bytes at x y
+stood_as {A} own part first bytes at x y only e =
+    let s = stood own part (λ (z : Result A Refusal). z ≡ Ok x) (λ r i. cc) first bytes at e in
+    let z : spelled_at bytes at ≡ y = only (spelled_at bytes at) s.says in
     let o : operands_in y ≡ s.operands =
-    ap operands_in (sym s.says) ∙ arity_law (get_or bytes at 0) s.operands (get_or bytes (at + 1) 0) (get_or bytes (at + 2) 0) s.arity in
-    record { stands = s; inside = rw o s.within; fits = rw s.says at s.fits }
+    ap operands_in (sym z) ∙ arity_law (get_or bytes at 0) s.operands (get_or bytes (at + 1) 0) (get_or bytes (at + 2) 0) s.arity in
+    record { stands = s; spelled = z; inside = rw o s.within; fits = rw z at s.fits }
+
+only_later : (i : Item) (z : Command) → item_in z ≡ Ok i → z ≡ Later i
+only_later i (Later j) e = let q : j ≡ i = cc in ap Later q
+only_later i (Boards n) e = cc
+
+only_boards : (n : ℕ) (z : Command) → boards_in z ≡ Ok n → z ≡ Boards n
+only_boards n (Boards m) e = let q : m ≡ n = cc in ap Boards q
+only_boards n (Later i) e = cc
 
 module _ (bytes : List ℕ) (n limit at count : ℕ) (links : List ℕ) where
   pub record LinkAdmitted (a b : ℕ) (v : Bool) : Type 0 where
     pub able : no_link n a b ≡ false
     pub changes : unchanged v (link links a b) ≡ false
 
-  taken : (y : Command) → next bytes n limit at count links ≡ y → Taken y → StoodAs (later_causes n limit count links) false bytes at y
+  taken : (i : Item) → next bytes n limit at count links ≡ Ok i → StoodAs (later_causes n limit count links) item_in false bytes at i (Later i)
   unfolding next
-  taken y e h = stood_as (later_causes n limit count links) false bytes at y e h
+  taken i e = stood_as (later_causes n limit count links) item_in false bytes at i (Later i) (only_later i) e
 
-  pub next-link : (a b : Board) (v : Bool) → next bytes n limit at count links ≡ Later (Link a b v) → LinkAdmitted a.0 b.0 v
-  next-link a b v e = let f = (taken (Later (Link a b v)) e tt).fits in record { able = f.0; changes = f.1.0 }
+  pub next-link : (a b : Board) (v : Bool) → next bytes n limit at count links ≡ Ok (Link a b v) → LinkAdmitted a.0 b.0 v
+  next-link a b v e = let f = (taken (Link a b v) e).fits in record { able = f.0; changes = f.1.0 }
 
-  pub next_pick : next bytes n limit at count links ≡ Later Pick → count < limit
-  next_pick e = leb-false limit count (taken (Later Pick) e tt).fits.0
+  pub next_pick : next bytes n limit at count links ≡ Ok Pick → count < limit
+  next_pick e = leb-false limit count (taken Pick e).fits.0
 
-  pub next_end : next bytes n limit at count links ≡ Later End → at < length bytes
-  next_end e = let h = (taken (Later End) e tt).inside in omega arith
+  pub next_end : next bytes n limit at count links ≡ Ok End → at < length bytes
+  next_end e = let h = (taken End e).inside in omega arith
 
 -- what a first command that is taken says
 pub record Headed (limit room : ℕ) (bytes : List ℕ) (start n : ℕ) : Type 0 where
@@ -128,13 +117,13 @@ pub record Headed (limit room : ℕ) (bytes : List ℕ) (start n : ℕ) : Type 0
   pub high : n ≤ 32
   pub room_for : limit * n ≤ room
   pub there : start + 2 ≤ length bytes
-  pub stands : Stood (boards_causes limit room) (λ (z : Command). z ≡ Boards n) true bytes start
+  pub stands : StoodAs (boards_causes limit room) boards_in true bytes start n (Boards n)
 
-pub headed : (limit room : ℕ) (bytes : List ℕ) (start n : ℕ) → head_at limit room bytes start ≡ Boards n → Headed limit room bytes start n
+pub headed : (limit room : ℕ) (bytes : List ℕ) (start n : ℕ) → head_at limit room bytes start ≡ Ok n → Headed limit room bytes start n
 unfolding head_at first_or
 headed limit room bytes start n e =
-    let (l, i) = none_refused Not (λ (z : Command). z ≡ Boards n) (λ r z. no cc) ((not (between 1 limit 4096), cause.Picks) ∷ []) _ e in
-    let s = stood_as (boards_causes limit room) true bytes start (Boards n) i tt in
+    let (l, i) = none_refused Err (λ (z : Result ℕ Refusal). z ≡ Ok n) (λ r z. cc) ((not (between 1 limit 4096), cause.Picks) ∷ []) _ e in
+    let s = stood_as (boards_causes limit room) boards_in true bytes start n (Boards n) (only_boards n) i in
     let b = between_says 1 limit 4096 (holds_by refl l.0) in
     let c = between_says 2 n 32 (holds_by refl s.fits.0) in
     record {
@@ -144,5 +133,5 @@ headed limit room bytes start n e =
       high = c.1;
       room_for = ltb-false room (limit * n) s.fits.1.0;
       there = omega (arith, s.inside);
-      stands = s.stands;
+      stands = s;
     }

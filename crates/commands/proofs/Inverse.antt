@@ -8,12 +8,12 @@ use borrow.Author.Tests.{lt-ltb, le-ltb}
 use lib.ListN.{length, get_or, length-append}
 use lib.Seq.{get_or-append_seam, get_or-append-add}
 use Rattle.model.specs.Causes.{first_or}
-use Rattle.commands.specs.declared.Arity.TheVariants.{Known}
+use Rattle.std.specs.Prelude.{Some, Ok}
 use Rattle.commands.specs.Commands.{misplaced, arity_of, command_of, command_at}
 
 -- a command byte in its place, with its k operands behind it, is taken apart to what it says, whatever stands before and after
-pub command_here : (first : Bool) (pre rest : List ℕ) (c k : ℕ) → misplaced first c ≡ false → arity_of c ≡ Known k → k ≤ length rest
-    → command_at first (pre ++ (c ∷ rest)) (length pre) ≡ command_of c (get_or rest 0 0) (get_or rest 1 0)
+pub command_here : (first : Bool) (pre rest : List ℕ) (c k : ℕ) → misplaced first c ≡ false → arity_of c ≡ Some k → k ≤ length rest
+    → command_at first (pre ++ (c ∷ rest)) (length pre) ≡ Ok (command_of c (get_or rest 0 0) (get_or rest 1 0))
 unfolding command_at first_or
 command_here first pre rest c k e w h =
     let l : length pre < length (pre ++ (c ∷ rest)) = rw length-append (omega arith) in

@@ -2,4 +2,4 @@
 pub mod Inverse
 pub mod Table
 pub mod Admit
-pub mod Others
+pub mod Fitted

@@ -1,44 +1,29 @@
--- The table of commands: a search from an index on ends at the entry there or goes on behind it; and the rule of the entries.
--- Assumes nothing.
+-- The table of commands: what its search finds, and the rule of its entries. Assumes nothing.
 use mathlib.Core.Path.{◌≡◌, refl, sym}
 use mathlib.Core.Bool.{Bool, true, false, cond}
 use mathlib.Core.List.{List, [], ◌∷◌}
-use Prim.Native.Nat.{ℕ, ◌+◌, ◌<◌, ◌≤◌}
-use native.Mathlib.Numerals.{add-one}
-use lib.ListN.{length, get_or, drop, drop_of_length-le}
-use lib.Seq.{drop-cons}
-use native.Mathlib.Omega.{arith}
-use borrow.Author.Tests.{eq-eqb, ne_eqb, eqb-true}
+use Prim.Native.Nat.{ℕ}
+use borrow.Author.Tests.{eqb-true}
 use lib.Dec.{T, eqb, eqb→eq}
 use Rattle.model.proofs.Logic.{and_l, and_r}
 use Rattle.commands.specs.declared.Shape.{Shape}
-use Rattle.commands.specs.declared.Arity.TheVariants.{Known, Unknown}
+use Rattle.std.specs.Prelude.{Some}
+use Rattle.std.specs.Option.{option_map}
+use Rattle.std.specs.List.{find}
 use Rattle.commands.specs.Commands.{shapes, lookup, arity_of, command_of, operands_in, is_arity, ruled, every_shape}
-
-module _ (ss : List Shape) (i b : ℕ) (d : Shape) (h : i < length ss) where
-  pub lookup_hit : (get_or ss i d).byte ≡ b → lookup (drop i ss) b ≡ Known (get_or ss i d).operands
-  unfolding lookup
-  lookup_hit e = rw (drop-cons ss i d h, eq-eqb (get_or ss i d).byte b e)
-
-  pub lookup_miss : ((get_or ss i d).byte ≡ b → ⊥) → lookup (drop i ss) b ≡ lookup (drop (i + 1) ss) b
-  unfolding lookup
-  lookup_miss e = rw (drop-cons ss i d h, ne_eqb (get_or ss i d).byte b e, add-one)
-
-pub lookup_end : (ss : List Shape) (i b : ℕ) → length ss ≤ i → lookup (drop i ss) b ≡ Unknown
-unfolding lookup
-lookup_end ss i b h = rw (drop_of_length-le ss h)
 
 -- what holds of each entry holds of every byte that a search finds, with its operand count
 abbrev pub EachShape : (ℕ → ℕ → Type 0) → List Shape → Type 0
 EachShape P [] = Unit {0}
 EachShape P (s ∷ ss) = P s.byte s.operands × EachShape P ss
 
-pub by_shape : (P : ℕ → ℕ → Type 0) (ss : List Shape) → EachShape P ss → (b k : ℕ) → lookup ss b ≡ Known k → P b k
+pub by_shape : (P : ℕ → ℕ → Type 0) (ss : List Shape) → EachShape P ss → (b k : ℕ) → lookup ss b ≡ Some k → P b k
 unfolding lookup
-by_shape P [] a b k e = let z : ◌≡◌ {A = ℕ} 0 1 = cc in absurd (omega arith)
+by_shape P [] a b k e = absurd cc
 by_shape P (s ∷ ss) a b k e = by (eqb s.byte b) refl e (by_shape P ss a.1 b k)
   where
-    by : (x : Bool) → eqb s.byte b ≡ x → cond x (Known s.operands) (lookup ss b) ≡ Known k → (lookup ss b ≡ Known k → P b k) → P b k
+    by : (x : Bool) → eqb s.byte b ≡ x → option_map (λ (t : Shape). t.operands) (cond x (Some s) (find (λ (t : Shape). eqb t.byte b) ss)) ≡ Some k
+        → (lookup ss b ≡ Some k → P b k) → P b k
     by true q i more =
         let f : s.byte ≡ b = eqb-true s.byte b q in
         let o : s.operands ≡ k = cc in
@@ -62,6 +47,6 @@ each-ruled x y (s ∷ ss) t =
     (eqb→eq c s.operands (and_r w (eqb c s.operands) (and_l (ruled x y s) r t)), each-ruled x y ss (and_r (ruled x y s) r t))
 
 -- a known command byte has as many operands as its command
-pub arity_law : (b k x y : ℕ) → arity_of b ≡ Known k → operands_in (command_of b x y) ≡ k
+pub arity_law : (b k x y : ℕ) → arity_of b ≡ Some k → operands_in (command_of b x y) ≡ k
 unfolding arity_of
 arity_law b k x y e = by_shape (λ i o. operands_in (command_of i x y) ≡ o) shapes (each-ruled x y shapes (table_rule x y)) b k e

@@ -1,12 +1,14 @@
 -- The commands of a recording file: 01's table of operand counts, and a command taken apart at a place of the file.
-use Rattle.std.specs.Prelude.{Bool, true, false, not, ◌&&◌, ◌||◌, cond, List, [], ◌∷◌, ℕ, ◌+◌, eqb, ltb, length, get_or}
+use Rattle.std.specs.Prelude.{Bool, true, false, not, ◌&&◌, ◌||◌, cond, Option, Some, None, Result, Ok, Err, List, [], ◌∷◌, ℕ, ◌+◌, eqb, ltb}
+use Rattle.std.specs.Prelude.{length, get_or}
+use Rattle.std.specs.Option.{option_map}
+use Rattle.std.specs.List.{find}
 use Rattle.model.specs.Causes.{RefusalCauses, first_or}
+use Rattle.model.specs.declared.Refusal.{Refusal}
 use Rattle.model.specs.declared.Refusal.TheVariants as cause
 use Rattle.commands.specs.declared.Shape.{Shape}
-use Rattle.commands.specs.declared.Arity.{Arity}
-use Rattle.commands.specs.declared.Arity.TheVariants.{Known, Unknown}
 use Rattle.commands.specs.declared.Command.{Command}
-use Rattle.commands.specs.declared.Command.TheVariants.{Boards, Later, Not}
+use Rattle.commands.specs.declared.Command.TheVariants.{Boards, Later}
 use Rattle.commands.specs.declared.Item.TheVariants.{Link, Pick, End}
 
 -- command byte and operand count
@@ -19,12 +21,11 @@ shapes =
     ∷ record { byte = 0x45; operands = 0 }
     ∷ []
 
--- the first entry with that byte
-unfoldable pub lookup : List Shape → ℕ → Arity
-lookup [] b = Unknown
-lookup (s ∷ ss) b = cond (eqb s.byte b) (Known s.operands) (lookup ss b)
+-- the operand count of the first entry with that byte
+unfoldable pub lookup : List Shape → ℕ → Option ℕ
+lookup ss b = option_map (λ s. s.operands) (find (λ s. eqb s.byte b) ss)
 
-unfoldable pub arity_of : ℕ → Arity
+unfoldable pub arity_of : ℕ → Option ℕ
 unfolding lookup
 arity_of b = lookup shapes b
 
@@ -41,13 +42,13 @@ abbrev pub misplaced : Bool → ℕ → Bool
 misplaced true b = not (eqb b 0x42)
 misplaced false b = eqb b 0x42
 
-abbrev pub is_unknown : Arity → Bool
-is_unknown (Known k) = false
-is_unknown Unknown = true
+abbrev pub is_unknown : Option ℕ → Bool
+is_unknown (Some k) = false
+is_unknown None = true
 
-abbrev pub operands_of : Arity → ℕ
-operands_of (Known k) = k
-operands_of Unknown = 0
+abbrev pub operands_of : Option ℕ → ℕ
+operands_of (Some k) = k
+operands_of None = 0
 
 -- 11: a byte is there, and it is unknown or not in its place; 12: the file stops before it or inside its operands
 abbrev pub unreadable : Bool → List ℕ → ℕ → RefusalCauses
@@ -61,8 +62,8 @@ abbrev pub spelled_at : List ℕ → ℕ → Command
 spelled_at bytes at = command_of (get_or bytes at 0) (get_or bytes (at + 1) 0) (get_or bytes (at + 2) 0)
 
 -- the command at a place of the file, taken apart
-unfoldable pub command_at : Bool → List ℕ → ℕ → Command
-command_at first bytes at = first_or Not (unreadable first bytes at) (spelled_at bytes at)
+unfoldable pub command_at : Bool → List ℕ → ℕ → Result Command Refusal
+command_at first bytes at = first_or Err (unreadable first bytes at) (Ok (spelled_at bytes at))
 
 -- ---- the rule of the table
 
@@ -72,11 +73,10 @@ operands_in (Boards n) = 1
 operands_in (Later (Link a b v)) = 2
 operands_in (Later Pick) = 0
 operands_in (Later End) = 0
-operands_in (Not r) = 0
 
-abbrev pub is_arity : Arity → ℕ → Bool
-is_arity (Known k) m = eqb k m
-is_arity Unknown m = false
+abbrev pub is_arity : Option ℕ → ℕ → Bool
+is_arity (Some k) m = eqb k m
+is_arity None m = false
 
 -- an entry is found by its byte, and its count is that of the byte's command, whatever the operands
 unfoldable pub ruled : ℕ → ℕ → Shape → Bool

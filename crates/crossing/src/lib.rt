@@ -2,8 +2,6 @@
 #![tactic(auto)]
 
 ghost use Rattle.std.specs.Prelude.{◌≡◌, ◌<◌, ◌^◌};
-ghost use Rattle.model.specs.Journey.{val};
-ghost use Rattle.model.specs.Refusals.{number};
 ghost use Rattle.calls.specs.Answers.{answer_says};
 ghost use Rattle.decision.specs.Decisions.{decision_says};
 ghost use Rattle.saving.specs.Answers.{saving_says};
@@ -14,11 +12,10 @@ use calls::Answer;
 use decision::Decision;
 use model::{Compositions, Pick, Refusal, Tests};
 use place::{Counts, Place, Settings, TestMarks, Window};
-use saving::Saving;
 
 // The place as ten words. A flag is 0 for no and 1 for yes.
 #[repr(C)]
-#[derive(Clone, Copy)]
+#[derive(Clone, Copy, PartialEq, Eq)]
 pub struct PlaceWords {
     pub boards: u32,
     pub measure: u32,
@@ -34,7 +31,7 @@ pub struct PlaceWords {
 
 // What opening and a pick answer: refusal 0 is none.
 #[repr(C)]
-#[derive(Clone, Copy)]
+#[derive(Clone, Copy, PartialEq, Eq)]
 pub struct HandedWords {
     pub refusal: u32,
     pub place: PlaceWords,
@@ -42,7 +39,7 @@ pub struct HandedWords {
 
 // What a whole run answers: length 0 is none.
 #[repr(C)]
-#[derive(Clone, Copy)]
+#[derive(Clone, Copy, PartialEq, Eq)]
 pub struct AnswerWords {
     pub refusal: u32,
     pub length: u32,
@@ -52,7 +49,7 @@ pub struct AnswerWords {
 
 // What the length call answers, with the place as it was.
 #[repr(C)]
-#[derive(Clone, Copy)]
+#[derive(Clone, Copy, PartialEq, Eq)]
 pub struct MeasuredWords {
     pub refusal: u32,
     pub length: u32,
@@ -63,7 +60,7 @@ pub struct MeasuredWords {
 
 // What a decision answers: yes is 1 where every window passes, else 0.
 #[repr(C)]
-#[derive(Clone, Copy)]
+#[derive(Clone, Copy, PartialEq, Eq)]
 pub struct DecisionWords {
     pub refusal: u32,
     pub yes: u32,
@@ -73,7 +70,7 @@ pub struct DecisionWords {
 
 // What the reader answers: boards and picks 0 where the file is refused.
 #[repr(C)]
-#[derive(Clone, Copy)]
+#[derive(Clone, Copy, PartialEq, Eq)]
 pub struct ReadingWords {
     pub refusal: u32,
     pub boards: u32,
@@ -82,13 +79,13 @@ pub struct ReadingWords {
 
 // What the writer answers: length 0 where nothing was written.
 #[repr(C)]
-#[derive(Clone, Copy)]
+#[derive(Clone, Copy, PartialEq, Eq)]
 pub struct SavedWords {
     pub refusal: u32,
     pub length: u32,
 }
 
-// ---- places and answers as words
+// ---- places and answers as words. What asks that its numbers fit is a function: `From` asks nothing, and `TryFrom` could fail.
 
 // Whether a word is a flag.
 fn is_flag(x: u32) -> bool
@@ -100,16 +97,7 @@ fn is_flag(x: u32) -> bool
 pub fn are_flags(p: PlaceWords) -> bool
     ensures { result ≡ flags p }
 {
-    if !is_flag(p.failed) {
-        return false;
-    }
-    is_flag(p.passed)
-}
-
-fn wide(x: u32) -> usize
-    ensures { result ≡ x }
-{
-    x as usize
+    is_flag(p.failed) && is_flag(p.passed)
 }
 
 pub fn narrow(x: usize) -> u32
@@ -119,34 +107,30 @@ pub fn narrow(x: usize) -> u32
     x as u32
 }
 
-fn word_of(x: bool) -> u32
-    ensures { result ≡ val x }
-{
-    if x { 1 } else { 0 }
-}
+impl From<PlaceWords> for Place {
+    ghost from_gives = { λ words place. place ≡ place_of words };
 
-pub fn place_of(p: PlaceWords) -> Place
-    ensures { result ≡ place_of p }
-{
-    Place {
-        settings: Settings {
-            boards: wide(p.boards),
-            measure: wide(p.measure),
-            limit: wide(p.limit),
-        },
-        window: Window {
-            taken: Pick(wide(p.taken)),
-            start: Pick(wide(p.start)),
-            boundary: Pick(wide(p.boundary)),
-        },
-        marks: TestMarks {
-            failed: p.failed == 1,
-            passed: p.passed == 1,
-        },
-        counts: Counts {
-            compositions: Compositions(wide(p.compositions)),
-            tests: Tests(wide(p.tests)),
-        },
+    fn from(p: PlaceWords) -> Place {
+        Place {
+            settings: Settings {
+                boards: p.boards as usize,
+                measure: p.measure as usize,
+                limit: p.limit as usize,
+            },
+            window: Window {
+                taken: Pick(p.taken as usize),
+                start: Pick(p.start as usize),
+                boundary: Pick(p.boundary as usize),
+            },
+            marks: TestMarks {
+                failed: p.failed == 1,
+                passed: p.passed == 1,
+            },
+            counts: Counts {
+                compositions: Compositions(p.compositions as usize),
+                tests: Tests(p.tests as usize),
+            },
+        }
     }
 }
 
@@ -154,70 +138,49 @@ pub fn words_of(p: Place) -> PlaceWords
     requires { Narrow p }
     ensures { result ≡ words_of p }
 {
-    let m = p.window.taken;
-    let s = p.window.start;
-    let b = p.window.boundary;
-    let c = p.counts.compositions;
-    let t = p.counts.tests;
     PlaceWords {
         boards: narrow(p.settings.boards),
         measure: narrow(p.settings.measure),
         limit: narrow(p.settings.limit),
-        taken: narrow(m.0),
-        start: narrow(s.0),
-        boundary: narrow(b.0),
-        failed: word_of(p.marks.failed),
-        passed: word_of(p.marks.passed),
-        compositions: narrow(c.0),
-        tests: narrow(t.0),
+        taken: narrow(p.window.taken.0),
+        start: narrow(p.window.start.0),
+        boundary: narrow(p.window.boundary.0),
+        failed: u32::from(p.marks.failed),
+        passed: u32::from(p.marks.passed),
+        compositions: narrow(p.counts.compositions.0),
+        tests: narrow(p.counts.tests.0),
     }
-}
-
-pub fn cause_word(c: Refusal) -> u32
-    ensures { result ≡ number c }
-{
-    narrow(model::number_of(c))
 }
 
 pub fn answer_words(a: Answer) -> AnswerWords
     requires { NarrowAnswer (answer_says a) }
     ensures { result ≡ answer_words (answer_says a) }
 {
-    match a {
-        Answer::Length(l, c, t) => AnswerWords {
-            refusal: 0,
-            length: narrow(l),
-            compositions: narrow(c.0),
-            tests: narrow(t.0),
-        },
-        Answer::Refused(r, c, t) => AnswerWords {
-            refusal: cause_word(r),
-            length: 0,
-            compositions: narrow(c.0),
-            tests: narrow(t.0),
-        },
+    let (refusal, length) = match a.length {
+        Ok(l) => (0, narrow(l)),
+        Err(c) => (u32::from(c), 0),
+    };
+    AnswerWords {
+        refusal,
+        length,
+        compositions: narrow(a.counts.compositions.0),
+        tests: narrow(a.counts.tests.0),
     }
 }
 
-pub fn decision_words(d: Decision) -> DecisionWords
+pub fn decision_words(d: Result<Decision, Refusal>) -> DecisionWords
     requires { NarrowDecision (decision_says d) }
     ensures { result ≡ decision_words (decision_says d) }
 {
     match d {
-        Decision::Yes(c, t) => DecisionWords {
+        Ok(Decision { yes, counts }) => DecisionWords {
             refusal: 0,
-            yes: 1,
-            compositions: narrow(c.0),
-            tests: narrow(t.0),
+            yes: u32::from(yes),
+            compositions: narrow(counts.compositions.0),
+            tests: narrow(counts.tests.0),
         },
-        Decision::No(c, t) => DecisionWords {
-            refusal: 0,
-            yes: 0,
-            compositions: narrow(c.0),
-            tests: narrow(t.0),
-        },
-        Decision::Refused(r) => DecisionWords {
-            refusal: cause_word(r),
+        Err(c) => DecisionWords {
+            refusal: u32::from(c),
             yes: 0,
             compositions: 0,
             tests: 0,
@@ -225,17 +188,17 @@ pub fn decision_words(d: Decision) -> DecisionWords
     }
 }
 
-pub fn saving_words(s: Saving) -> SavedWords
+pub fn saving_words(s: Result<usize, Refusal>) -> SavedWords
     requires { NarrowSaved (saving_says s) }
     ensures { result ≡ saved_words (saving_says s) }
 {
     match s {
-        Saving::Written(k) => SavedWords {
+        Ok(k) => SavedWords {
             refusal: 0,
             length: narrow(k),
         },
-        Saving::Refused(c) => SavedWords {
-            refusal: cause_word(c),
+        Err(c) => SavedWords {
+            refusal: u32::from(c),
             length: 0,
         },
     }

@@ -6,14 +6,15 @@ use native.Mathlib.Numerals.{add-one}
 use native.Mathlib.Omega.{arith}
 use mathlib.Core.Path.{◌≡◌, refl, sym, ap, ap₂, ◌∙◌, subst}
 use mathlib.Core.Bool.{Bool, true, false, cond, false≢true}
-use mathlib.Core.List.{List}
+use mathlib.Core.List.{List, ◌++◌}
 use lib.Dec.{leb}
-use lib.ListN.{length, drop}
+use lib.ListN.{length, take, drop}
 use borrow.Author.Tests.{leb-true, leb-false}
 use Rattle.model.specs.Journey.{val}
 use Rattle.model.proofs.Logic.{cond_ind}
 use Rattle.links.specs.Picks.{lent_pick}
 use Rattle.links.proofs.Picks.{lent_long}
+use Rattle.links.proofs.Chunks.{Behind, Turn, behind_all, behind_turn, behind_none}
 use Rattle.measures.specs.Kit.{Kit}
 use Rattle.area.specs.Parts.{part_size}
 use Rattle.place.specs.declared.Settings.{Settings}
@@ -373,6 +374,41 @@ module _ (p : Place) (k m : ℕ) (w a b : List ℕ) (some : 1 ≤ k) where
         tests = g.tests;
       }
   same_held sa sb x (suc j) h = same_next j _ _ h (same_held sa sb x j (omega arith))
+
+-- ---- the loop over the picks
+
+-- the first j are taken, and the words of the others are left
+pub record Holding (p : Place) (w a : List ℕ) (m k j : ℕ) (rest : List ℕ) (q : Place) (b : List ℕ) : Type 0 where
+  pub behind : Behind p.settings.boards m w j rest
+  pub after : AfterPicks p w a m j q b
+  pub start : q.window.start.0 ≡ 1 + (j - k)
+  pub stepped : state q b ≡ held_bare p k w a j
+
+pub holding_start : (k : ℕ) {p : Place} {w a : List ℕ} {m : ℕ} → Starts p m w a → Holding p w a m k 0 (take (m * p.settings.boards) w) p a
+holding_start k {p} {w} {a} {m} s = record {
+  behind = behind_all p.settings.boards m w;
+  after = along_start p w a m s;
+  start = held_first k s;
+  stepped = held_none p k w a;
+}
+
+module _ {p q : Place} {w a rest b : List ℕ} {m k j : ℕ} (some : 1 ≤ k) (g : Holding p w a m k j rest q b) where
+  pub holding_turn : {x rest' : List ℕ} → 1 ≤ p.settings.boards → rest ≡ x ++ rest' → length x ≡ p.settings.boards
+      → Turn {m = m} g.after.starts.words g.behind x rest'
+  holding_turn low e l = behind_turn g.after.starts.words g.behind low e l
+
+  pub holding_enters : {x rest' : List ℕ} → Turn g.after.starts.words g.behind x rest' → Enters (Held k) q (length b) (length x)
+  holding_enters t = subst (λ (x : List ℕ). Enters (Held k) q (length b) (length x)) (sym t.pick) (held_enters some g.after g.start t.more)
+
+  pub holding_next : {x rest' d : List ℕ} {r : Place} → Turn g.after.starts.words g.behind x rest' → q.marks.failed ≡ false
+      → Does (held_step (bare_tested (kit_of q.settings)) (kit_of q.settings) k x) q b r d → Holding p w a m k (j + 1) rest' r d
+  holding_next t f e =
+      let h = rw t.pick at e in
+      let u = unkept_along some g.after g.start t.more h in
+      record { behind = t.behind; after = u.0; start = u.1; stepped = held_next k g.after g.stepped f h }
+
+  pub holding_end : length rest < p.settings.boards → Leaves p k m w a q b
+  holding_end h = let e = behind_none g.after.starts.words g.behind h in held_end k g.after g.stepped (omega arith)
 
 -- WHAT THE WALK HELD AT k COMES TO: the place, from whatever area a decision begins in.
 pub held_ends : (n measure m k : ℕ) (w a : List ℕ) {p q : Place} {b d : List ℕ} → Runs n measure m w a → 1 ≤ k → Begins n measure m w a p b

@@ -1,6 +1,7 @@
 -- What the decision answers and leaves, for every input. A cause is its number, 0 where there is none.
-use Rattle.std.specs.Prelude.{ℕ, ◌/◌, Bool, true, false, not, cond, List, ◌++◌, eqb, length}
+use Rattle.std.specs.Prelude.{ℕ, ◌/◌, Bool, false, not, cond, List, ◌++◌, eqb, length, Result, Ok, Err}
 use Rattle.model.specs.Causes.{Causes, first_of}
+use Rattle.model.specs.declared.Refusal.{Refusal}
 use Rattle.model.specs.Refusals.{number}
 use Rattle.measures.specs.Kit.{kit}
 use Rattle.area.specs.Parts.{zeroed}
@@ -9,7 +10,6 @@ use Rattle.verdicts.specs.Verdicts.{needed, whole_causes, window_causes}
 use Rattle.steps.specs.Walk.{State, tried}
 use Rattle.calls.specs.Calls.{whole_start}
 use Rattle.decision.specs.declared.Decision.{Decision}
-use Rattle.decision.specs.declared.Decision.TheVariants.{Yes, No, Refused}
 use Rattle.decision.specs.Held.{held_steps}
 
 -- ---- the answer
@@ -28,11 +28,14 @@ decided c y x t = record { refusal = c; yes = y; compositions = x; tests = t }
 abbrev pub decided_by : ℕ → Decided → Decided
 decided_by c d = cond (eqb c 0) d (decided c false 0 0)
 
--- yes or no, each with both counts, or the number
-abbrev pub decision_says : Decision → Decided
-decision_says (Yes c t) = decided 0 true c.0 t.0
-decision_says (No c t) = decided 0 false c.0 t.0
-decision_says (Refused r) = decided (number r) false 0 0
+-- yes or no, with both counts
+abbrev pub decided_as : Decision → Decided
+decided_as d = decided 0 d.yes d.counts.compositions.0 d.counts.tests.0
+
+-- or the number
+abbrev pub decision_says : Result Decision Refusal → Decided
+decision_says (Ok d) = decided_as d
+decision_says (Err r) = decided (number r) false 0 0
 
 -- ---- the causes: those of a whole run, 1, 2, 10, 8, 3, 4, 5, then 17; m = length w / n picks are lent
 

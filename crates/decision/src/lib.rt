@@ -3,35 +3,39 @@
 #![tactic(auto)]
 
 ghost use Rattle.std.specs.Prelude.{◌≡◌, ◌≢◌, ◌≤◌, length};
+ghost use Rattle.measures.specs.Kit.{size_of};
 ghost use Rattle.area.specs.Parts.{zeroed};
 ghost use Rattle.verdicts.specs.Verdicts.{needed, verdict_says};
 ghost use Rattle.verdicts.specs.Fit.{Runs};
 ghost use Rattle.steps.specs.Fit.{Lends};
 ghost use Rattle.calls.specs.Fit.{Starts};
 ghost use Rattle.decision.specs.Fit.{Leaves};
-ghost use Rattle.decision.specs.Decisions.{decision_says, decision_verdict, decided_at, decision_report, decide_says, decide_leaves};
+ghost use Rattle.decision.specs.Decisions.{decided_as, decision_says, decision_verdict, decided_at, decision_report, decide_says, decide_leaves};
 
-use model::{Compositions, Refusal, Tests};
-use place::Place;
+use model::Refusal;
+use place::{Counts, Place};
 use steps::Mode;
-use verdicts::Verdict;
 
-// Yes or no, each with its two counts, or a cause.
-#[derive(Clone, Copy)]
-pub enum Decision {
-    Yes(Compositions, Tests),
-    No(Compositions, Tests),
-    Refused(Refusal),
+// Yes or no, with both counts.
+#[derive(Clone, Copy, PartialEq, Eq)]
+pub struct Decision {
+    pub yes: bool,
+    pub counts: Counts,
 }
 
 // The causes, in their order: those of a whole run, 1, 2, 10, 8, 3, 4, 5, then 17.
-fn decision_verdict(n: usize, measure: usize, words: &[u32], k: usize, area: &[u32]) -> Verdict
+#[tactic(auto, using(verdicts::proofs::Verdicts::whole_sound), unfolding(model::specs::Causes::first_of, crate::specs::Decisions::decision_verdict, verdicts::specs::Verdicts::whole_verdict))]
+fn decision_verdict(
+    n: usize,
+    measure: usize,
+    words: &[u32],
+    k: usize,
+    area: &[u32],
+) -> Result<(), Refusal>
     ensures { verdict_says result ≡ decision_verdict n measure words.now k area.now }
 {
-    match verdicts::whole_verdict(n, measure, words, area) {
-        Verdict::Clear => verdicts::window_verdict(k, words.len() / n),
-        Verdict::Refuse(c) => Verdict::Refuse(c),
-    }
+    verdicts::whole_verdict(n, measure, words, area)?;
+    verdicts::window_verdict(k, words.len() / n)
 }
 
 // ---- the walk held at k
@@ -45,64 +49,51 @@ fn hold_picks(
     k: usize,
     right: &mut [u32],
 ) -> Place
-    requires { Starts p m words.now area.old × (1 ≤ k) × Lends p.settings (length right.old) }
+    requires { Starts p m words.now area.old × (1 ≤ k) × (1 ≤ p.settings.boards) × Lends p.settings (length right.old) }
     ensures { Leaves p k m words.now area.old result area.new }
 {
     let n = p.settings.boards;
     let mut q = p;
-    for j in 0..m {
+    for pick in words[..m * n].chunks_exact(n) {
         if q.marks.failed {
             return q;
         }
-        let at = j * n;
-        q = steps::step(q, area, &words[at..at + n], right, Mode::Held(k));
+        q = steps::step(q, area, pick, right, Mode::Held(k));
     }
     q
 }
 
-// The same with room for the copy of a table of links, made once for all picks.
-fn hold_links(p: Place, area: &mut [u32], words: &[u32], m: usize, k: usize) -> Place
-    requires { Starts p m words.now area.old × (1 ≤ k) × (p.settings.measure ≢ 4) }
+// The same with room for the copy of a table of up to W words, made once for all picks.
+fn hold_in<const W: usize>(p: Place, area: &mut [u32], words: &[u32], m: usize, k: usize) -> Place
+    requires { Starts p m words.now area.old × (1 ≤ k) × (1 ≤ p.settings.boards) × (size_of p.settings.measure p.settings.boards ≤ W) × (W ≤ 2048) }
     ensures { Leaves p k m words.now area.old result area.new }
 {
-    let n = p.settings.boards;
-    let mut right = lists::no_words();
-    hold_picks(p, area, words, m, k, &mut right[0..n])
+    let e = measures::size(p.settings.measure, p.settings.boards);
+    let mut right = lists::zeroed::<W>();
+    hold_picks(p, area, words, m, k, &mut right[..e])
 }
 
-// The same with room for the copy of a table of times.
-fn hold_times(p: Place, area: &mut [u32], words: &[u32], m: usize, k: usize) -> Place
-    requires { Starts p m words.now area.old × (1 ≤ k) × (p.settings.measure ≡ 4) }
-    ensures { Leaves p k m words.now area.old result area.new }
-{
-    let n = p.settings.boards;
-    let e = measures::size(4, n);
-    let mut right = lists::no_times();
-    hold_picks(p, area, words, m, k, &mut right[0..e])
-}
-
+// A table of times has 2,048 words at most, one of links 32.
 fn hold_window(p: Place, area: &mut [u32], words: &[u32], m: usize, k: usize) -> Place
-    requires { Starts p m words.now area.old × (1 ≤ k) }
+    requires { Starts p m words.now area.old × (1 ≤ k) × (1 ≤ p.settings.boards) }
     ensures { Leaves p k m words.now area.old result area.new }
 {
     if p.settings.measure == 4 {
-        return hold_times(p, area, words, m, k);
+        return hold_in::<2048>(p, area, words, m, k);
     }
-    hold_links(p, area, words, m, k)
+    hold_in::<32>(p, area, words, m, k)
 }
 
 // ---- the call
 
 // Yes where no test has failed.
 fn answer_at(p: Place) -> Decision
-    ensures { decision_says result ≡ decided_at p }
+    ensures { decided_as result ≡ decided_at p }
 {
-    let c = p.counts.compositions;
-    let t = p.counts.tests;
-    if p.marks.failed {
-        return Decision::No(c, t);
+    Decision {
+        yes: !p.marks.failed,
+        counts: p.counts,
     }
-    Decision::Yes(c, t)
 }
 
 // A decision that nothing refuses. It never reads what the area held, and the needed words end zero.
@@ -115,7 +106,7 @@ fn decide_run(
     area: &mut [u32],
 ) -> Decision
     requires { Runs n measure m words.now area.old × (1 ≤ k) }
-    ensures { (decision_says result ≡ decision_report n measure m words.now k area.old)
+    ensures { (decided_as result ≡ decision_report n measure m words.now k area.old)
         × (area.new ≡ zeroed (needed measure n m) area.old) }
 {
     let p = calls::whole_start(n, measure, words, m, area);
@@ -125,15 +116,17 @@ fn decide_run(
 }
 
 // Whether every window of k picks passes, of a recording lent whole, n words a pick; with the counts.
-pub fn decide(n: usize, measure: usize, words: &[u32], k: usize, area: &mut [u32]) -> Decision
+#[tactic(auto, using(model::proofs::Refusals::number_some, crate::proofs::Verdicts::decision_sound, verdicts::proofs::Verdicts::whole_sound), unfolding(crate::specs::Decisions::decide_says, crate::specs::Decisions::decide_leaves))]
+pub fn decide(
+    n: usize,
+    measure: usize,
+    words: &[u32],
+    k: usize,
+    area: &mut [u32],
+) -> Result<Decision, Refusal>
     ensures { (decision_says result ≡ decide_says n measure words.now k area.old)
         × (area.new ≡ decide_leaves n measure words.now k area.old) }
 {
-    match decision_verdict(n, measure, words, k, area) {
-        Verdict::Clear => {
-            let m = words.len() / n;
-            decide_run(n, measure, words, m, k, area)
-        }
-        Verdict::Refuse(c) => Decision::Refused(c),
-    }
+    decision_verdict(n, measure, words, k, area)?;
+    Ok(decide_run(n, measure, words, words.len() / n, k, area))
 }

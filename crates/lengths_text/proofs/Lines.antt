@@ -1,8 +1,7 @@
 -- The lines of the measures, written one behind the other. Assumes nothing.
 use mathlib.Core.Path.{◌≡◌, refl, sym, ◌∙◌}
 use mathlib.Core.List.{List, ◌++◌}
-use Prim.Native.Nat.{ℕ, ◌+◌, ◌-◌, ◌*◌, ◌≤◌, ◌<◌, zero-le}
-use native.Mathlib.Nat.{sub-zero}
+use Prim.Native.Nat.{ℕ, zero, suc, ◌+◌, ◌-◌, ◌*◌, ◌≤◌, ◌<◌, zero-le}
 use native.Mathlib.Numerals.{add-one}
 use native.Mathlib.Omega.{arith}
 use lib.ListN.{length, take, drop}
@@ -18,16 +17,18 @@ use Rattle.recording.specs.Answers.{read, read_says, read_leaves}
 use Rattle.calls.specs.Answers.{Outcome}
 use Rattle.lengths_text.specs.LengthsText.{header, row_of, line_of, lines_of, under_header, text_of}
 
--- the lines of measures 1 to m stand from `at` on
+-- the lines of the measures below m stand from `at` on
 pub record Printed (out₀ : List ℕ) (at n k : ℕ) (w out : List ℕ) (next m : ℕ) : Type 0 where
-  pub lines : Put out₀ at (lines_of n k w m) next out
-  pub room : next ≤ at + 105 * m
-  pub few : m ≤ 4
+  pub some : 1 ≤ m
+  pub lines : Put out₀ at (lines_of n k w (m - 1)) next out
+  pub room : next ≤ at + 105 * (m - 1)
+  pub few : m ≤ 5
   pub long : length out ≡ length out₀
 
-pub printed_start : (out₀ : List ℕ) (at n k : ℕ) (w : List ℕ) → Printed out₀ at n k w out₀ at 0
+pub printed_start : (out₀ : List ℕ) (at n k : ℕ) (w : List ℕ) → Printed out₀ at n k w out₀ at 1
 unfolding lines_of
 printed_start out₀ at n k w = record {
+  some = omega arith;
   lines = record { behind = omega arith; bytes = splice_none at out₀ };
   room = omega arith;
   few = omega arith;
@@ -35,20 +36,24 @@ printed_start out₀ at n k w = record {
 }
 
 pub printed_turn : {out₀ : List ℕ} {at n k : ℕ} {w out : List ℕ} {next m : ℕ} {a : Outcome} {out' : List ℕ} {next' : ℕ}
-    → Printed out₀ at n k w out next m → m < 4 → at ≤ length out₀ → a ≡ row_of n k w (m + 1) → Put out next (line_of (m + 1) a) next' out'
+    → Printed out₀ at n k w out next m → m < 5 → at ≤ length out₀ → a ≡ row_of n k w m → Put out next (line_of m a) next' out'
     → next' ≤ next + 105 → length out' ≡ length out → Printed out₀ at n k w out' next' (m + 1)
 unfolding lines_of
-printed_turn {out₀} {at} {n} {k} {w} {out} {next} {m} {a} {out'} {next'} p h l e q r s = record {
-  lines = rw (add-one m) (put_then l p.lines (rw e at q));
-  room = omega (arith, p.room);
-  few = omega arith;
-  long = s ∙ p.long;
-}
+printed_turn {m = zero} p h l e q r s = absurd (let z = p.some in omega arith)
+printed_turn {m = suc m} p h l e q r s =
+    let before : suc m - 1 ≡ m = omega arith in
+    let behind : suc m + 1 - 1 ≡ suc m = omega arith in record {
+      some = omega arith;
+      lines = rw behind (put_then l (rw before at p.lines) (rw (e, sym (add-one m)) at q));
+      room = omega (arith, p.room);
+      few = omega arith;
+      long = s ∙ p.long;
+    }
 
-pub printed_whole : {out₀ : List ℕ} {at n k : ℕ} {w out : List ℕ} {next m : ℕ} → Printed out₀ at n k w out next m → 4 ≤ m
+pub printed_whole : {out₀ : List ℕ} {at n k : ℕ} {w out : List ℕ} {next m : ℕ} → Printed out₀ at n k w out next m → 5 ≤ m
     → Put out₀ at (lines_of n k w 4) next out × (next ≤ at + 420)
 printed_whole {out₀} {at} {n} {k} {w} {out} {next} {m} p h =
-    let e : m ≡ 4 = omega (arith, p.few) in
+    let e : m ≡ 5 = omega (arith, p.few) in
     (rw e at p.lines, omega (arith, p.room))
 
 -- ---- the whole text
@@ -65,9 +70,9 @@ both_read buf xs ys l₁ l₂ r₁ r₂ p q =
 module _ (bytes words : List ℕ) (e : words ≡ zeros 1280) where
   -- of a file that is read: `left` are the words after it
   pub of_read : (n k : ℕ) (left : List ℕ) → read_says 40 bytes words ≡ read 0 n k → left ≡ read_leaves 40 bytes words
-      → header ++ lines_of n k (take (k * n - 0) left) 4 ≡ text_of bytes
+      → header ++ lines_of n k (take (k * n) left) 4 ≡ text_of bytes
   unfolding text_of under_header
-  of_read n k left q l = rw (sym e, q, sym l, sub-zero)
+  of_read n k left q l = rw (sym e, q, sym l)
 
   -- of a file that is refused
   pub of_refused : (r : Refusal) → read_says 40 bytes words ≡ read (number r) 0 0

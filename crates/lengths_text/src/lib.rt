@@ -9,71 +9,44 @@ ghost use Rattle.lengths_text.specs.LengthsText.{row_of, line_of, lines_of, text
 
 use calls::Answer;
 use columns::Cell;
-use model::{Compositions, Refusal, Tests};
+use model::Refusal;
 use recording::Reading;
 
-// The words of at most 40 picks over 32 boards: a function of its own, so that no proof writes the zeros out.
-fn no_picks() -> [u32; 1280]
-    ensures { (result ≡ zeros 1280) × (1280 ≡ length result) }
-{
-    [0u32; 1280]
-}
-
-// The area of each whole run.
-fn no_area() -> [u32; 5676]
-    ensures { (result ≡ zeros 5676) × (5676 ≡ length result) }
-{
-    [0u32; 5676]
-}
-
 // What a measure answers. The area must do for 40 picks, however many there are; without picks that is not asked.
+#[tactic(auto, using(area::proofs::Lent::width_most), unfolding(crate::specs::LengthsText::row_of))]
 fn answer_of(n: usize, picks: usize, words: &[u32], measure: usize) -> Answer
     requires { n ≤ 32 }
     ensures { answer_says result ≡ row_of n picks words.now measure }
 {
     if picks == 0 {
-        return Answer::Refused(Refusal::NoPick, Compositions(0), Tests(0));
+        return Answer::refused(Refusal::NoPick);
     }
-    let e = area::width(measure, n);
-    if 5676 < 44 * e {
-        return Answer::Refused(Refusal::Room, Compositions(0), Tests(0));
+    if 5676 < 44 * area::width(measure, n) {
+        return Answer::refused(Refusal::Room);
     }
-    let mut area = no_area();
+    let mut area = lists::zeroed::<5676>();
     calls::whole(n, measure, words, &mut area)
 }
 
 // Writes a measure's line, and answers the place behind it.
+#[tactic(auto, using(model::proofs::Refusals::number_some), unfolding(crate::specs::LengthsText::line_of))]
 fn put_answer(out: &mut [u8], at: usize, measure: usize, answer: Answer) -> usize
     requires { at + 105 ≤ length out.old }
     ensures { Put out.old at (line_of measure (answer_says answer)) result out.new × (result ≤ at + 105) }
 {
-    let first = Cell::Number(measure);
-    match answer {
-        Answer::Length(k, c, t) => {
-            columns::put_line(
-                out,
-                at,
-                first,
-                Cell::Number(k),
-                Cell::Number(0),
-                Cell::Number(c.0),
-                Cell::Number(t.0),
-            )
-        }
-        Answer::Refused(r, c, t) => {
-            let length = Cell::Dash;
-            let refusal = Cell::Number(model::number_of(r));
-            columns::put_line(
-                out,
-                at,
-                first,
-                length,
-                refusal,
-                Cell::Number(c.0),
-                Cell::Number(t.0),
-            )
-        }
-    }
+    let (length, refusal) = match answer.length {
+        Ok(k) => (Cell::Number(k), 0),
+        Err(c) => (Cell::Dash, u32::from(c) as usize),
+    };
+    columns::put_line(
+        out,
+        at,
+        Cell::Number(measure),
+        length,
+        Cell::Number(refusal),
+        Cell::Number(answer.counts.compositions.0),
+        Cell::Number(answer.counts.tests.0),
+    )
 }
 
 // Writes the lines of the four measures.
@@ -82,9 +55,9 @@ fn put_measures(out: &mut [u8], at: usize, n: usize, picks: usize, words: &[u32]
     ensures { Put out.old at (lines_of n picks words.now 4) result out.new × (result ≤ at + 420) }
 {
     let mut next = at;
-    for m in 0..4 {
-        let answer = answer_of(n, picks, words, m + 1);
-        next = put_answer(out, next, m + 1, answer);
+    for measure in 1..5 {
+        let answer = answer_of(n, picks, words, measure);
+        next = put_answer(out, next, measure, answer);
     }
     next
 }
@@ -95,24 +68,16 @@ pub fn put_lengths(bytes: &[u8], out: &mut [u8]) -> usize
     ensures { (result ≤ length out.new) × (take result out.new ≡ text_of bytes.now)
         × (drop result out.new ≡ drop result out.old) }
 {
-    let mut words = no_picks();
+    let mut words = lists::zeroed::<1280>();
     let at = columns::put_text(out, 0, b"measure length refusal compositions tests\n");
     match recording::read(bytes, 40, &mut words) {
-        Reading::Read { boards, picks } => {
-            let total = picks * boards;
-            put_measures(out, at, boards, picks, &words[0..total])
+        Ok(Reading { boards, picks }) => {
+            put_measures(out, at, boards, picks, &words[..picks * boards])
         }
-        Reading::Refused(r) => {
-            let refusal = Cell::Number(model::number_of(r));
-            columns::put_line(
-                out,
-                at,
-                Cell::File,
-                Cell::Dash,
-                refusal,
-                Cell::Number(0),
-                Cell::Number(0),
-            )
+        Err(c) => {
+            let refusal = Cell::Number(u32::from(c) as usize);
+            let none = Cell::Number(0);
+            columns::put_line(out, at, Cell::File, Cell::Dash, refusal, none, none)
         }
     }
 }

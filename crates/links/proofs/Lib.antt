@@ -6,3 +6,4 @@ pub mod Ways
 pub mod Tells
 pub mod Unmet
 pub mod Picks
+pub mod Chunks

@@ -43,6 +43,14 @@ pub fn zero_over(out: &mut [u32], n: usize)
     }
 }
 
+// N zeros: a function of its own, so that no proof writes them out.
+#[tactic(auto, unfolding(crate::specs::Tab::zeros))]
+pub fn zeroed<const N: usize>() -> [u32; N]
+    ensures { result ≡ zeros N }
+{
+    [0; N]
+}
+
 // Thirty-two zeros: a function of its own, so that no proof writes them out.
 pub fn no_words() -> [u32; 32]
     ensures { result ≡ zeros 32 }

@@ -73,11 +73,9 @@ impl From<Refusal> for u32 {
 }
 
 // Whether x is low to high: each range that a cause asks for is one call of it.
+#[tactic(auto, unfolding(crate::specs::Causes::between))]
 pub fn is_between(low: usize, x: usize, high: usize) -> bool
     ensures { result ≡ between low x high }
 {
-    if x < low {
-        return false;
-    }
-    x <= high
+    low <= x && x <= high
 }

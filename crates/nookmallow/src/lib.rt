@@ -11,11 +11,11 @@ ghost use Rattle.saving.specs.Answers.{save_says, save_leaves};
 ghost use Rattle.crossing.specs.Words.{handed_words, answer_words, measured_words, decision_words, reading_words, saved_words};
 ghost use Rattle.nookmallow.specs.Boundary.{pick_answers, pick_keeps, length_answers};
 
-use calls::{Opening, Taking};
 use crossing::{
     AnswerWords, DecisionWords, HandedWords, MeasuredWords, PlaceWords, ReadingWords, SavedWords,
 };
-use reach::Tabled;
+use model::Refusal;
+use place::Place;
 use recording::Reading;
 
 // The version of the format of the place and of the area.
@@ -42,13 +42,13 @@ pub fn nookmallow_open(
         footprint,
         area,
     ) {
-        Opening::Opened(p) => HandedWords {
+        Ok(p) => HandedWords {
             refusal: 0,
             place: crossing::words_of(p),
         },
-        Opening::NotOpened(p, c) => HandedWords {
-            refusal: crossing::cause_word(c),
-            place: crossing::words_of(p),
+        Err(r) => HandedWords {
+            refusal: u32::from(r.cause),
+            place: crossing::words_of(r.place),
         },
     }
 }
@@ -59,17 +59,17 @@ pub fn nookmallow_pick(p: PlaceWords, area: &mut [u32], words: &[u32]) -> Handed
 {
     if !crossing::are_flags(p) {
         return HandedWords {
-            refusal: 16,
+            refusal: u32::from(Refusal::BadPlace),
             place: p,
         };
     }
-    match calls::pick(crossing::place_of(p), area, words) {
-        Taking::Taken(q) => HandedWords {
+    match calls::pick(Place::from(p), area, words) {
+        Ok(q) => HandedWords {
             refusal: 0,
             place: crossing::words_of(q),
         },
-        Taking::NotTaken(_, c) => HandedWords {
-            refusal: crossing::cause_word(c),
+        Err(r) => HandedWords {
+            refusal: u32::from(r.cause),
             place: p,
         },
     }
@@ -80,15 +80,13 @@ fn length_words(p: PlaceWords) -> AnswerWords
 {
     if !crossing::are_flags(p) {
         return AnswerWords {
-            refusal: 16,
+            refusal: u32::from(Refusal::BadPlace),
             length: 0,
             compositions: 0,
             tests: 0,
         };
     }
-    let r = calls::length(crossing::place_of(p));
-    let a = r.answer;
-    crossing::answer_words(a)
+    crossing::answer_words(calls::length(Place::from(p)).answer)
 }
 
 // The length of the picks so far, with the counts. The place is handed back as it was.
@@ -132,8 +130,8 @@ pub fn nookmallow_table(n: u32, words: &[u32], out: &mut [u32]) -> u32
     ensures { (result ≡ table_verdict n words.now out.old) × (out.new ≡ table_leaves n words.now out.old) }
 {
     match reach::table(n as usize, words, out) {
-        Tabled::Written => 0,
-        Tabled::Refused(c) => crossing::cause_word(c),
+        Ok(()) => 0,
+        Err(c) => u32::from(c),
     }
 }
 
@@ -142,13 +140,13 @@ pub fn nookmallow_read(bytes: &[u8], limit: u32, out: &mut [u32]) -> ReadingWord
     ensures { (result ≡ reading_words (read_says limit bytes.now out.old)) × (out.new ≡ read_leaves limit bytes.now out.old) }
 {
     match recording::read(bytes, limit as usize, out) {
-        Reading::Read { boards, picks } => ReadingWords {
+        Ok(Reading { boards, picks }) => ReadingWords {
             refusal: 0,
             boards: crossing::narrow(boards),
             picks: crossing::narrow(picks),
         },
-        Reading::Refused(c) => ReadingWords {
-            refusal: crossing::cause_word(c),
+        Err(c) => ReadingWords {
+            refusal: u32::from(c),
             boards: 0,
             picks: 0,
         },

@@ -7,7 +7,7 @@ ghost use Rattle.place.specs.Places.{fresh, most_counted, picks_taken, start_mov
 use model::{Compositions, Pick, Tests};
 
 // What no step touches.
-#[derive(Clone, Copy)]
+#[derive(Clone, Copy, PartialEq, Eq)]
 pub struct Settings {
     // n, the number of boards
     pub boards: usize,
@@ -18,7 +18,7 @@ pub struct Settings {
 }
 
 // Where the walk stands.
-#[derive(Clone, Copy)]
+#[derive(Clone, Copy, PartialEq, Eq)]
 pub struct Window {
     // picks taken m
     pub taken: Pick,
@@ -29,7 +29,7 @@ pub struct Window {
 }
 
 // What the tests said.
-#[derive(Clone, Copy)]
+#[derive(Clone, Copy, PartialEq, Eq)]
 pub struct TestMarks {
     // whether any test has failed, first no
     pub failed: bool,
@@ -38,14 +38,14 @@ pub struct TestMarks {
 }
 
 // The two counts, charged as the steps are made.
-#[derive(Clone, Copy)]
+#[derive(Clone, Copy, PartialEq, Eq)]
 pub struct Counts {
     pub compositions: Compositions,
     pub tests: Tests,
 }
 
 // In groups that change together: each step names its own, and the others stay.
-#[derive(Clone, Copy)]
+#[derive(Clone, Copy, PartialEq, Eq)]
 pub struct Place {
     pub settings: Settings,
     pub window: Window,
@@ -147,6 +147,7 @@ impl Place {
     };
 
     // The fresh value of a measure.
+    #[tactic(auto, unfolding(crate::specs::Places::fresh))]
     fn of_measure(measure: usize) -> Place
         requires { (1 ≤ measure) × (measure ≤ 4) }
         ensures { result ≡ fresh measure 0 0 }
@@ -160,6 +161,7 @@ impl Place {
     }
 
     // The opened place: the fresh value of its measure, for n boards and a limit.
+    #[tactic(auto, unfolding(crate::specs::Places::fresh))]
     pub fn open(measure: usize, n: usize, limit: usize) -> Place
         requires { (1 ≤ measure) × (measure ≤ 4) }
         ensures { result ≡ fresh measure n limit }
@@ -171,164 +173,119 @@ impl Place {
     }
 
     // k picks more.
+    #[tactic(auto, unfolding(crate::specs::Places::picks_taken))]
     pub fn picks_taken(mut self, k: usize) -> Place
         requires { (self.window.taken.0 ≤ 4096) × (k ≤ 4096) }
         ensures { result ≡ picks_taken self k }
     {
-        let mut w = self.window;
-        let m = w.taken;
-        let more = Pick(m.0 + k);
-        w.taken = more;
-        self.window = w;
+        self.window.taken.0 += k;
         self
     }
 
     // The start moved on by k.
+    #[tactic(auto, unfolding(crate::specs::Places::start_moved))]
     pub fn start_moved(mut self, k: usize) -> Place
         requires { (self.window.start.0 ≤ 4097) × (k ≤ 1) }
         ensures { result ≡ start_moved self k }
     {
-        let mut w = self.window;
-        let s = w.start;
-        let next = Pick(s.0 + k);
-        w.start = next;
-        self.window = w;
+        self.window.start.0 += k;
         self
     }
 
     // The boundary at the last pick.
+    #[tactic(auto, unfolding(crate::specs::Places::boundary_moved))]
     pub fn boundary_moved(mut self) -> Place
         ensures { result ≡ boundary_moved self }
     {
-        let mut w = self.window;
-        let m = w.taken;
-        w.boundary = m;
-        self.window = w;
+        self.window.boundary = self.window.taken;
         self
     }
 
     // k compositions more on the count.
+    #[tactic(auto, unfolding(crate::specs::Places::charged))]
     pub fn charged(mut self, k: usize) -> Place
         requires { (self.counts.compositions.0 ≤ most_counted) × (k ≤ 4096) }
         ensures { result ≡ charged self k }
     {
-        let c = self.counts.compositions;
-        let t = self.counts.tests;
-        let more = Compositions(c.0 + k);
-        let counts = Counts {
-            compositions: more,
-            tests: t,
-        };
-        self.counts = counts;
+        self.counts.compositions.0 += k;
         self
     }
 
     // One test more on the count, and its result.
+    #[tactic(auto, unfolding(crate::specs::Places::tested, crate::specs::Places::marked))]
     pub fn tested(mut self, passed: bool) -> Place
         requires { self.counts.tests.0 ≤ most_counted }
         ensures { result ≡ tested self passed }
     {
-        let c = self.counts.compositions;
-        let t = self.counts.tests;
-        let more = Tests(t.0 + 1);
-        let counts = Counts {
-            compositions: c,
-            tests: more,
+        self.counts.tests.0 += 1;
+        self.marks = TestMarks {
+            failed: self.marks.failed || !passed,
+            passed,
         };
-        self.counts = counts;
-        self.marks.passed = passed;
-        if !passed {
-            self.marks.failed = true;
-        }
         self
     }
 
     // n, measure and limit are in range.
+    #[tactic(auto, unfolding(crate::specs::Places::in_range))]
     fn is_in_range(self) -> bool
         ensures { result ≡ in_range self }
     {
-        if !model::is_between(2, self.settings.boards, 32) {
-            return false;
-        }
-        if !model::is_between(1, self.settings.measure, 4) {
-            return false;
-        }
-        model::is_between(1, self.settings.limit, 4096)
+        model::is_between(2, self.settings.boards, 32)
+            && model::is_between(1, self.settings.measure, 4)
+            && model::is_between(1, self.settings.limit, 4096)
     }
 
     // m is not above limit, b not above m, s is 1 to b + 1. In this order, so that b + 1 is a number whatever the place holds.
+    #[tactic(auto, unfolding(crate::specs::Places::sound_window))]
     fn is_sound_window(self) -> bool
         requires { self.settings.limit ≤ 4096 }
         ensures { result ≡ sound_window self }
     {
-        let m = self.window.taken;
-        let b = self.window.boundary;
-        let s = self.window.start;
-        if self.settings.limit < m.0 {
-            return false;
-        }
-        if m.0 < b.0 {
-            return false;
-        }
-        model::is_between(1, s.0, b.0 + 1)
+        let Window {
+            taken,
+            start,
+            boundary,
+        } = self.window;
+        taken.0 <= self.settings.limit
+            && boundary.0 <= taken.0
+            && model::is_between(1, start.0, boundary.0 + 1)
     }
 
     // s is not above m when m is 1 or more.
+    #[tactic(auto, unfolding(crate::specs::Places::sound_start))]
     fn is_sound_start(self) -> bool
         ensures { result ≡ sound_start self }
     {
-        let m = self.window.taken;
-        let s = self.window.start;
-        if m.0 == 0 {
-            return true;
-        }
-        s.0 <= m.0
+        self.window.taken.0 == 0 || self.window.start.0 <= self.window.taken.0
     }
 
     // No test is marked, as failed or as passed, when m is 0.
+    #[tactic(auto, unfolding(crate::specs::Places::sound_marks))]
     fn are_sound_marks(self) -> bool
         ensures { result ≡ sound_marks self }
     {
-        let m = self.window.taken;
-        if 1 <= m.0 {
-            return true;
-        }
-        if self.marks.failed {
-            return false;
-        }
-        !self.marks.passed
+        1 <= self.window.taken.0 || !self.marks.failed && !self.marks.passed
     }
 
     // Compositions are not above 4 × m, tests not above 2 × m.
+    #[tactic(auto, unfolding(crate::specs::Places::sound_counts))]
     fn are_sound_counts(self) -> bool
         requires { self.window.taken.0 ≤ 4096 }
         ensures { result ≡ sound_counts self }
     {
-        let m = self.window.taken;
-        let c = self.counts.compositions;
-        let t = self.counts.tests;
-        if 4 * m.0 < c.0 {
-            return false;
-        }
-        t.0 <= 2 * m.0
+        let m = self.window.taken.0;
+        self.counts.compositions.0 <= 4 * m && self.counts.tests.0 <= 2 * m
     }
 
     // Whether the place is none of those that cause 16 refuses. Nothing is required: the ranges come first, so no sum after them wraps.
+    #[tactic(auto, using(crate::proofs::Laws::limit_within, crate::proofs::Laws::taken_low), unfolding(crate::specs::Places::sound_place))]
     pub fn is_sound(self) -> bool
         ensures { result ≡ sound_place self }
     {
-        if !self.is_in_range() {
-            return false;
-        }
-        if !self.is_sound_window() {
-            return false;
-        }
-        if !self.is_sound_start() {
-            return false;
-        }
-        if !self.are_sound_marks() {
-            return false;
-        }
-        self.are_sound_counts()
+        self.is_in_range()
+            && self.is_sound_window()
+            && self.is_sound_start()
+            && self.are_sound_marks()
+            && self.are_sound_counts()
     }
 }

@@ -1,17 +1,17 @@
 -- The table of reach, pick by pick, and what a verdict says. Assumes nothing.
 use mathlib.Core.Path.{◌≡◌, refl, sym, ap, ap₂, ◌∙◌}
 use mathlib.Core.List.{List, [], ◌∷◌, ◌++◌}
-use Prim.Native.Nat.{ℕ, suc, ◌+◌, ◌-◌, ◌*◌, ◌/◌, ◌≤◌}
-use native.Mathlib.Nat.{sub-zero}
+use Prim.Native.Nat.{ℕ, suc, ◌+◌, ◌-◌, ◌*◌, ◌/◌, ◌≤◌, ◌<◌}
+use native.Mathlib.Nat.{one-mul, le_refl}
 use native.Mathlib.Numerals.{add-one}
 use native.Mathlib.Omega.{arith}
 use lib.Dec.{T}
-use lib.ListN.{length, take}
-use lib.Seq.{length-take-le}
+use lib.ListN.{length, take, drop}
 use Rattle.model.proofs.Causes.{none_holds, between_says, in-range, holds_by, not_of_true}
 use Rattle.links.specs.Tables.{compose, within}
 use Rattle.links.specs.Composed.{composed_from, composed, reach}
 use Rattle.links.specs.Picks.{lent_pick}
+use Rattle.links.proofs.Chunks.{Behind, first_words, behind_first, behind_turn, behind_none}
 use Rattle.checks.specs.Lent.{lent_picks, clean_picks}
 use Rattle.checks.proofs.Lent.{length_lent}
 use Rattle.verdicts.proofs.Verdicts.{true_of, not_short, long_enough, lent_sound, lent_none}
@@ -83,15 +83,32 @@ tables_verdict n w out o =
       ),
     )
 
--- one turn of the loop
-pub reach_turn : (n h k : ℕ) (w out out' p : List ℕ) → 1 ≤ k → out ≡ reach n h (lent_picks n w k) → p ≡ lent_pick n w k
-    → out' ≡ compose n out (within n h p) → out' ≡ reach n h (lent_picks n w (k + 1))
-unfolding lent_picks
-reach_turn n h k w out out' p l a b c =
-    c ∙ ap₂ (λ (x y : List ℕ). compose n x (within n h y)) a b
-    ∙ sym (reach_snoc n h (lent_picks n w k) (lent_pick n w k) (omega (arith, length_lent n w k)))
-    ∙ ap (λ (i : ℕ). reach n h (lent_picks n w i)) (sym (add-one k))
+-- ---- the loop over the picks after the first: the table of the first k, and the words of the others
 
--- the first n words as code lends them
-pub front_long : (n : ℕ) (out : List ℕ) → n ≤ length out → n ≡ length (take (n - 0) out)
-front_long n out h = sym (ap (λ (x : ℕ). length (take x out)) (sub-zero n) ∙ length-take-le n out h)
+pub record Reached (n h m : ℕ) (w : List ℕ) (k : ℕ) (rest out : List ℕ) : Type 0 where
+  pub some : 1 ≤ k
+  pub behind : Behind n m w k rest
+  pub table : out ≡ reach n h (lent_picks n w k)
+
+pub reached_first : {n h m : ℕ} {w out : List ℕ} → 1 ≤ m → out ≡ within n h (take n w) → Reached n h m w 1 (take (m * n - n) (drop n w)) out
+reached_first {n} {h} {m} {w} l e = record {
+  some = le_refl 1;
+  behind = rw one-mul at (behind_first n m 1 w l);
+  table = e ∙ ap (within n h) (first_words n w) ∙ sym (reach_first n h w);
+}
+
+pub reached_turn : {n h m k : ℕ} {w rest out rest' out' : List ℕ} (p : List ℕ) → m * n ≤ length w → 1 ≤ n → Reached n h m w k rest out
+    → rest ≡ p ++ rest' → length p ≡ n → out' ≡ compose n out (within n h p) → Reached n h m w (k + 1) rest' out'
+unfolding lent_picks
+reached_turn {n} {h} {m} {k} {w} p room some r e l c =
+    let t = behind_turn room r.behind some e l in record {
+      some = omega arith;
+      behind = t.behind;
+      table = c ∙ ap₂ (λ (x y : List ℕ). compose n x (within n h y)) r.table t.pick
+          ∙ sym (reach_snoc n h (lent_picks n w k) (lent_pick n w k) (let s = r.some in omega (arith, length_lent n w k)))
+          ∙ ap (λ (i : ℕ). reach n h (lent_picks n w i)) (sym (add-one k));
+    }
+
+pub reached_all : {n h m k : ℕ} {w rest out : List ℕ} → m * n ≤ length w → Reached n h m w k rest out → length rest < n
+    → out ≡ reach n h (lent_picks n w m)
+reached_all {n} {h} {m} {k} {w} room r short = rw (behind_none room r.behind short) at r.table

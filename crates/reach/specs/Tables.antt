@@ -1,18 +1,10 @@
 -- The call for the table of reach, for every input: what it answers and what it leaves. A cause is its number, 0 where there is none.
 use Rattle.std.specs.Prelude.{ℕ, ◌/◌, not, cond, List, [], ◌∷◌, ◌++◌, eqb, ltb, length, drop}
 use Rattle.model.specs.Causes.{between, Causes, first_of}
-use Rattle.model.specs.Refusals.{number}
 use Rattle.links.specs.Composed.{reach}
 use Rattle.checks.specs.Lent.{lent_picks, clean_picks}
 use Rattle.measures.specs.Kit.{hops01}
 use Rattle.verdicts.specs.Verdicts.{lent_causes}
-use Rattle.reach.specs.declared.Tabled.{Tabled}
-use Rattle.reach.specs.declared.Tabled.TheVariants.{Written, Refused}
-
--- the number of the refusal, 0 where the table is written
-abbrev pub table_says : Tabled → ℕ
-table_says Written = 0
-table_says (Refused c) = number c
 
 -- what the table is asked after the causes of every lent recording: 4 (n output words), 5
 abbrev pub out_causes : ℕ → List ℕ → ℕ → List ℕ → Causes

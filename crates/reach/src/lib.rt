@@ -8,17 +8,9 @@ ghost use Rattle.checks.specs.Lent.{lent_picks};
 ghost use Rattle.measures.specs.Kit.{hops01};
 ghost use Rattle.verdicts.specs.Verdicts.{verdict_says};
 ghost use Rattle.model.specs.Causes.{first_of};
-ghost use Rattle.reach.specs.Tables.{table_says, out_causes, table_verdict, table_leaves};
+ghost use Rattle.reach.specs.Tables.{out_causes, table_verdict, table_leaves};
 
 use model::Refusal;
-use verdicts::Verdict;
-
-// The table was written, or why not.
-#[derive(Clone, Copy)]
-pub enum Tabled {
-    Written,
-    Refused(Refusal),
-}
 
 // The table takes in one pick more: the pick's own table is composed onto it.
 fn add_pick(out: &mut [u32], pick: &[u32], n: usize)
@@ -31,53 +23,48 @@ fn add_pick(out: &mut [u32], pick: &[u32], n: usize)
 
 // The table of m picks, from the first one on.
 fn write_table(out: &mut [u32], words: &[u32], n: usize, m: usize)
-    requires { (n ≤ 32) × ((n ≡ length out.old) × ((1 ≤ m) × ((m ≤ 4096) × (m * n ≤ length words.now)))) }
+    requires { (1 ≤ n) × ((n ≤ 32) × ((n ≡ length out.old) × ((1 ≤ m) × ((m ≤ 4096) × (m * n ≤ length words.now))))) }
     ensures { out.new ≡ reach n hops01 (lent_picks n words.now m) }
 {
-    joins::close_over(out, &words[0..n], n);
-    for k in 1..m {
-        let at = k * n;
-        add_pick(out, &words[at..at + n], n);
+    joins::close_over(out, &words[..n], n);
+    for pick in words[n..m * n].chunks_exact(n) {
+        add_pick(out, pick, n);
     }
 }
 
 // The causes after those of every lent recording: 4, 5.
-fn out_verdict(n: usize, words: &[u32], m: usize, out: &[u32]) -> Verdict
+#[tactic(auto, unfolding(model::specs::Causes::first_of))]
+fn out_verdict(n: usize, words: &[u32], m: usize, out: &[u32]) -> Result<(), Refusal>
     requires { (n ≤ 32) × (m ≤ 4096) × (m * n ≤ length words.now) }
     ensures { verdict_says result ≡ first_of (out_causes n words.now m out.now) }
 {
     if out.len() < n {
-        return Verdict::Refuse(Refusal::Room);
+        return Err(Refusal::Room);
     }
     if !checks::are_clean(words, n, m) {
-        return Verdict::Refuse(Refusal::Forbidden);
+        return Err(Refusal::Forbidden);
     }
-    Verdict::Clear
+    Ok(())
 }
 
 // The causes, in their order: 1, 10, 8, 3, 4, 5.
-fn table_verdict(n: usize, words: &[u32], out: &[u32]) -> Verdict
+#[tactic(auto, unfolding(model::specs::Causes::first_of, model::specs::Causes::between, crate::specs::Tables::table_verdict))]
+fn table_verdict(n: usize, words: &[u32], out: &[u32]) -> Result<(), Refusal>
     ensures { verdict_says result ≡ table_verdict n words.now out.now }
 {
     if !model::is_between(2, n, 32) {
-        return Verdict::Refuse(Refusal::Boards);
+        return Err(Refusal::Boards);
     }
-    match verdicts::lent_verdict(words, n) {
-        Verdict::Clear => out_verdict(n, words, words.len() / n, out),
-        Verdict::Refuse(c) => Verdict::Refuse(c),
-    }
+    verdicts::lent_verdict(words, n)?;
+    out_verdict(n, words, words.len() / n, out)
 }
 
 // The table of a recording lent whole, n words a pick, into the first n words of out.
-pub fn table(n: usize, words: &[u32], out: &mut [u32]) -> Tabled
-    ensures { (table_says result ≡ table_verdict n words.now out.old) × (out.new ≡ table_leaves n words.now out.old) }
+#[tactic(auto, using(crate::proofs::Picks::table_sound, model::proofs::Refusals::number_some), unfolding(crate::specs::Tables::table_leaves))]
+pub fn table(n: usize, words: &[u32], out: &mut [u32]) -> Result<(), Refusal>
+    ensures { (verdict_says result ≡ table_verdict n words.now out.old) × (out.new ≡ table_leaves n words.now out.old) }
 {
-    match table_verdict(n, words, out) {
-        Verdict::Clear => {
-            let m = words.len() / n;
-            write_table(&mut out[0..n], words, n, m);
-            Tabled::Written
-        }
-        Verdict::Refuse(c) => Tabled::Refused(c),
-    }
+    table_verdict(n, words, out)?;
+    write_table(&mut out[..n], words, n, words.len() / n);
+    Ok(())
 }

@@ -13,7 +13,6 @@ use Rattle.model.specs.Causes.{first_or}
 use Rattle.model.proofs.Logic.{tr}
 use Rattle.lists.specs.Tab.{zeros}
 use Rattle.links.specs.Picks.{lent_pick}
-use Rattle.commands.proofs.Admit.{no}
 use Rattle.recording.specs.Format.{Content, ended, refused, commands, recording_at, read_file}
 use Rattle.recording.specs.Answers.{read, file_says, read_says}
 use Rattle.recording.specs.Grammar.{Act, sets, pick, spell, spell_all, spell_file, is_open, befores, Follow, Reads, AsWritten}
@@ -59,7 +58,7 @@ module _ (bytes : List ℕ) (n limit m : ℕ) (ps : List (List ℕ)) (end : ℕ)
 
   spelled_from : (turns : ℕ) → Spelled (commands bytes n limit turns)
   unfolding commands
-  spelled_from zero at picks links earlier s q = absurd (no cc)
+  spelled_from zero at picks links earlier s q = absurd cc
   spelled_from (suc turns) at picks links earlier s q =
       spell-step (commands bytes n limit turns) (spelled_from turns) at picks links earlier s
       (turn_told bytes n limit at picks links (commands bytes n limit turns) m ps end q)

@@ -21,7 +21,6 @@ use Rattle.checks.specs.Lent.{lent_picks}
 use Rattle.recording.specs.Format.{Content, ended, refused, alone, recording_at, read_file, words, output_after}
 use Rattle.recording.specs.Answers.{Read, read, ReadAt, read_at, file_says, part_says, part_of, read_says, read_leaves, read_at_says, read_at_leaves}
 use Rattle.recording.specs.Gives.{Gives}
-use Rattle.commands.proofs.Admit.{no}
 use Rattle.recording.proofs.Sound.{EndedReading, ended_reading}
 
 -- ---- the words of picks over the front of the output
@@ -128,10 +127,10 @@ module _ (limit : ℕ) (bytes : List ℕ) (start : ℕ) (out : List ℕ) where
 pub is_alone : (bytes : List ℕ) (o : Content) (n : ℕ) (ps : List (List ℕ)) (e : ℕ) → alone bytes o ≡ ended n ps e → (o ≡ ended n ps e)
     × (length bytes ≤ e)
 is_alone bytes (ended m qs f) n ps e q =
-    let (a, i) = none_refused refused (λ (z : Content). z ≡ ended n ps e) (λ r z. no cc) ((ltb f (length bytes), cause.Trailing) ∷ []) (ended m qs f) q in
+    let (a, i) = none_refused refused (λ (z : Content). z ≡ ended n ps e) (λ r z. cc) ((ltb f (length bytes), cause.Trailing) ∷ []) (ended m qs f) q in
     let k : f ≡ e = cc in
     (i, rw (sym k) (ltb-false f (length bytes) a.0))
-is_alone bytes (refused r) n ps e q = absurd (no cc)
+is_alone bytes (refused r) n ps e q = absurd (cc)
 
 module _ (limit : ℕ) (bytes out : List ℕ) where
   file_reading : (n : ℕ) (picks : List (List ℕ)) (end : ℕ) → read_file limit (length out) bytes ≡ ended n picks end

@@ -2,7 +2,6 @@
 pub mod Laws
 pub mod Causes
 pub mod Examples
-pub mod Others
 pub mod Written
 pub mod Bits
 pub mod Sound

@@ -1,25 +1,20 @@
--- What holds of every recording that the commands end in, by one induction on the turns; and what an answer of `go_over` says.
--- Assumes nothing.
+-- What holds of every recording that the commands end in, by one induction on the turns. Assumes nothing.
 use mathlib.Core.Path.{◌≡◌, refl, sym, ap, ◌∙◌}
-use mathlib.Core.Bool.{Bool}
 use mathlib.Core.List.{List, [], ◌∷◌, ◌++◌}
 use Prim.Native.Nat.{ℕ, zero, suc, ◌+◌, ◌≤◌, ◌<◌}
 use native.Mathlib.Omega.{arith}
 use lib.ListN.{length, length-append}
 use Rattle.model.specs.declared.Refusal.{Refusal}
-use Rattle.commands.specs.declared.Command.{Command}
-use Rattle.commands.specs.declared.Command.TheVariants.{Boards, Later, Not}
+use Rattle.std.specs.Prelude.{Result, Ok, Err}
+use Rattle.commands.specs.declared.Item.{Item}
 use Rattle.commands.specs.declared.Item.TheVariants.{Link, Pick, End}
-use Rattle.recording.specs.declared.Part.{Part}
-use Rattle.recording.specs.declared.Part.TheVariants as partIs
 use Rattle.commands.specs.Causes.{next, head_at}
 use Rattle.recording.specs.Format.{Content, ended, refused, follow, commands, body, after_head, recording_at}
-use Rattle.recording.specs.Answers.{part_of, GoneOver}
 use Rattle.model.specs.Recording.{Clean, Recording}
 use Rattle.model.proofs.Windows.{rec_append}
 use Rattle.lists.specs.Tab.{zeros}
 use Rattle.links.proofs.Bits.{zeros-clean}
-use Rattle.commands.proofs.Admit.{no, linkable, next-link, next_pick, next_end, Headed, headed}
+use Rattle.commands.proofs.Admit.{linkable, next-link, next_pick, next_end, Headed, headed}
 use Rattle.recording.proofs.Bits.{clean_flip}
 
 -- the state on the way
@@ -45,13 +40,13 @@ module _ (bytes : List ℕ) (n limit start : ℕ) where
   lawful_step : (more : ℕ → List (List ℕ) → List ℕ → Content)
       → ((at : ℕ) (picks : List (List ℕ)) (links : List ℕ) → Good bytes n limit start at picks links
       → Lawful bytes n limit start (more at picks links))
-      → (at : ℕ) (picks : List (List ℕ)) (links : List ℕ) (x : Command) → next bytes n limit at (length picks) links ≡ x
+      → (at : ℕ) (picks : List (List ℕ)) (links : List ℕ) (x : Result Item Refusal) → next bytes n limit at (length picks) links ≡ x
       → Good bytes n limit start at picks links → Lawful bytes n limit start (follow more n at picks links x)
-  lawful_step more ih at picks links (Later (Link a b v)) e g =
+  lawful_step more ih at picks links (Ok (Link a b v)) e g =
       let l = next-link bytes n limit at (length picks) links a b v e in
       ih (at + 3) picks _
       record { on = omega (arith, g.on); few = g.few; clean = g.clean; now = clean_flip n links a.0 b.0 g.now (linkable n a.0 b.0 l.able) }
-  lawful_step more ih at picks links (Later Pick) e g =
+  lawful_step more ih at picks links (Ok Pick) e g =
       let h = next_pick bytes n limit at (length picks) links e in
       ih (at + 1) (picks ++ (links ∷ [])) links
       record {
@@ -61,11 +56,10 @@ module _ (bytes : List ℕ) (n limit start : ℕ) where
             (g.now, tt);
         now = g.now;
       }
-  lawful_step more ih at picks links (Later End) e g =
+  lawful_step more ih at picks links (Ok End) e g =
       let h = next_end bytes n limit at (length picks) links e in
       record { boards = refl; few = g.few; clean = g.clean; after = omega (arith, g.on); inside = omega arith }
-  lawful_step more ih at picks links (Boards m) e g = tt
-  lawful_step more ih at picks links (Not r) e g = tt
+  lawful_step more ih at picks links (Err r) e g = tt
 
   lawful : (turns at : ℕ) (picks : List (List ℕ)) (links : List ℕ) → Good bytes n limit start at picks links
       → Lawful bytes n limit start (commands bytes n limit turns at picks links)
@@ -97,41 +91,13 @@ module _ (limit room : ℕ) (bytes : List ℕ) (start n : ℕ) (picks : List (Li
         whole = q ∙ ap (λ (x : ℕ). ended x ps e) b;
         sound = record { boards = refl; few = l.few; clean = l.clean; after = l.after; inside = l.inside };
       }
-  by_body m h (refused r) q l i = absurd (no cc)
+  by_body m h (refused r) q l i = absurd cc
 
-  by_head : (x : Command) → head_at limit room bytes start ≡ x → after_head limit bytes start x ≡ ended n picks end
+  by_head : (x : Result ℕ Refusal) → head_at limit room bytes start ≡ x → after_head limit bytes start x ≡ ended n picks end
       → EndedReading limit room bytes start n picks end
-  by_head (Boards m) q i = by_body m (headed limit room bytes start m q) _ refl (body_lawful bytes m limit start) i
-  by_head (Later j) q i = absurd (no cc)
-  by_head (Not r) q i = absurd (no cc)
+  by_head (Ok m) q i = by_body m (headed limit room bytes start m q) _ refl (body_lawful bytes m limit start) i
+  by_head (Err r) q i = absurd cc
 
   pub ended_reading : recording_at limit room bytes start ≡ ended n picks end → EndedReading limit room bytes start n picks end
   unfolding recording_at
   ended_reading i = by_head _ refl i
-
--- ---- what a caller of `go_over` learns from its answer
-
-pub record Answered (o : Content) (n count end : ℕ) : Type 0 where
-  pub picks : List (List ℕ)
-  pub counted : length picks ≡ count
-  pub read : o ≡ ended n picks end
-
--- r is what was answered
-module _ {writes : Bool} {o : Content} {out : List ℕ} {r : Part} {left : List ℕ} (p : GoneOver writes o out r left) where
-  pub answered : {n count end : ℕ} → r ≡ partIs.Ended n count end → Answered o n count end
-  answered {n} {count} {end} e = by o (sym p.says ∙ e)
-    where
-      by : (o : Content) → part_of o ≡ partIs.Ended n count end → Answered o n count end
-      by (ended m ps f) q =
-          let em : m ≡ n = cc in
-          let ef : f ≡ end = cc in
-          let ec : length ps ≡ count = cc in
-          record { picks = ps; counted = ec; read = rw (em, ef) }
-      by (refused s) q = absurd (no cc)
-
-  pub answered_not : {s : Refusal} → r ≡ partIs.Refused s → o ≡ refused s
-  answered_not {s} e = by o (sym p.says ∙ e)
-    where
-      by : (o : Content) → part_of o ≡ partIs.Refused s → o ≡ refused s
-      by (ended n picks end) q = absurd (no cc)
-      by (refused t) q = let i : t ≡ s = cc in ap refused i

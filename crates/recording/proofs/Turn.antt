@@ -12,14 +12,16 @@ use lib.Seq.{length-take-le, drop-cons}
 use Rattle.model.specs.Recording.{link}
 use Rattle.model.specs.Causes.{NoneHolds, first_or, by_number}
 use Rattle.model.proofs.Causes.{between_in}
-use Rattle.commands.specs.declared.Arity.TheVariants.{Known}
+use Rattle.std.specs.Prelude.{Some, Result, Ok}
+use Rattle.model.specs.declared.Refusal.{Refusal}
 use Rattle.commands.specs.declared.Command.{Command}
 use Rattle.commands.specs.declared.Command.TheVariants.{Boards, Later}
+use Rattle.commands.specs.declared.Item.{Item}
 use Rattle.commands.specs.declared.Item.TheVariants.{Link}
 use Rattle.commands.specs.Commands.{shapes, lookup, arity_of, command_of, misplaced, command_at}
-use Rattle.commands.specs.Causes.{no_link, unchanged, later_causes, next}
-use Rattle.commands.proofs.Admit.{no, Linkable, linkable, stood, Headed}
-use Rattle.commands.proofs.Others.{next_then, head_boards}
+use Rattle.commands.specs.Causes.{no_link, unchanged, later_causes, item_in, next}
+use Rattle.commands.proofs.Admit.{Linkable, linkable, stood, Headed}
+use Rattle.commands.proofs.Fitted.{next_then, head_then}
 use Rattle.commands.proofs.Table.{EachShape, by_shape}
 use Rattle.commands.proofs.Inverse.{command_here}
 use Rattle.recording.specs.Format.{Content, ended, flipped, follow, commands, body, recording_at}
@@ -50,8 +52,8 @@ changes false y e = ap not e
 
 module _ (bytes : List ℕ) (at c : ℕ) (rest : List ℕ) (e : drop at bytes ≡ c ∷ rest) where
   -- the command that is taken apart there
-  here : (first : Bool) (k : ℕ) → misplaced first c ≡ false → arity_of c ≡ Known k → k ≤ length rest
-      → command_at first bytes at ≡ command_of c (get_or rest 0 0) (get_or rest 1 0)
+  here : (first : Bool) (k : ℕ) → misplaced first c ≡ false → arity_of c ≡ Some k → k ≤ length rest
+      → command_at first bytes at ≡ Ok (command_of c (get_or rest 0 0) (get_or rest 1 0))
   here first k m w h =
       let l : length (drop at bytes) ≡ suc (length rest) = ap length e in
       let whole : bytes ≡ take at bytes ++ (c ∷ rest) = sym (take-append-drop at bytes) ∙ ap (λ (r : List ℕ). take at bytes ++ r) e in
@@ -80,7 +82,7 @@ pub head_turn : (limit room : ℕ) (bytes : List ℕ) (n : ℕ) (rest : List ℕ
 unfolding recording_at first_or command_of arity_of lookup
 head_turn limit room bytes n rest e a b c d r =
     let h = here bytes 0 0x42 (n ∷ rest) e true 1 refl refl (omega arith) in
-    simp (head_boards limit room bytes 0 (between_in 1 limit 4096 a b) refl h, between_in 2 n 32 c d, le-ltb room (limit * n) r)
+    simp (head_then, between_in 1 limit 4096 a b, h, between_in 2 n 32 c d, le-ltb room (limit * n) r)
 
 -- ---- backwards: the bytes at a turn that goes on
 
@@ -98,7 +100,7 @@ pub data TurnTold (bytes : List ℕ) (n limit at : ℕ) (picks : List (List ℕ)
   at-end : drop at bytes ≡ 0x45 ∷ drop (at + 1) bytes → ended n picks (at + 1) ≡ o → TurnTold bytes n limit at picks links more o
 
 module _ (bytes : List ℕ) (n limit at : ℕ) (picks : List (List ℕ)) (links : List ℕ) (more : More) (m : ℕ) (ps : List (List ℕ)) (end : ℕ) where
-  abbrev Goes : Command → Type 0
+  abbrev Goes : Result Item Refusal → Type 0
   Goes x = follow more n at picks links x ≡ ended m ps end
 
   -- none of its causes holds
@@ -112,10 +114,10 @@ module _ (bytes : List ℕ) (n limit at : ℕ) (picks : List (List ℕ)) (links 
   abbrev Byte : ℕ → ℕ → Type 0
   Byte b k = b ≡ get_or bytes at 0 → misplaced false b ≡ false → at + 1 + k ≤ length bytes
       → Uncaused (command_of b (get_or bytes (at + 1) 0) (get_or bytes (at + 2) 0))
-      → Goes (command_of b (get_or bytes (at + 1) 0) (get_or bytes (at + 2) 0)) → Here
+      → Goes (item_in (command_of b (get_or bytes (at + 1) 0) (get_or bytes (at + 2) 0))) → Here
 
   by_link : (x : Bool) → code x ≡ get_or bytes at 0 → at + 1 + 2 ≤ length bytes
-      → (let i = Later (Link (record { 0 = get_or bytes (at + 1) 0 }) (record { 0 = get_or bytes (at + 2) 0 }) x) in Uncaused i → Goes i → Here)
+      → (let i = Link (record { 0 = get_or bytes (at + 1) 0 }) (record { 0 = get_or bytes (at + 2) 0 }) x in Uncaused (Later i) → Goes (Ok i) → Here)
   by_link x e h f q =
       let a = get_or bytes (at + 1) 0 in
       let b = get_or bytes (at + 2) 0 in
@@ -147,7 +149,7 @@ module _ (bytes : List ℕ) (n limit at : ℕ) (picks : List (List ℕ)) (links 
   pub turn_told : Goes (next bytes n limit at (length picks) links) → Here
   unfolding next arity_of
   turn_told q =
-      let s = stood (later_causes n limit (length picks) links) Goes (λ r z. no cc) false bytes at q in
+      let s = stood (later_causes n limit (length picks) links) item_in Goes (λ r z. cc) false bytes at q in
       by_shape Byte shapes each_byte (get_or bytes at 0) s.operands s.arity refl s.placed s.within s.fits s.says
 
 -- the first command
@@ -155,8 +157,8 @@ pub head_back : {limit room : ℕ} {bytes : List ℕ} {n : ℕ} → Headed limit
 unfolding command_of arity_of lookup
 head_back {bytes = bytes} {n = n} h =
     let s = h.stands in
-    let b : get_or bytes 0 0 ≡ 0x42 = eqb-true (get_or bytes 0 0) 0x42 (not-false (eqb (get_or bytes 0 0) 0x42) s.placed) in
-    let c : command_of 0x42 (get_or bytes 1 0) (get_or bytes 2 0) ≡ Boards n = rw b at s.says in
+    let b : get_or bytes 0 0 ≡ 0x42 = eqb-true (get_or bytes 0 0) 0x42 (not-false (eqb (get_or bytes 0 0) 0x42) s.stands.placed) in
+    let c : command_of 0x42 (get_or bytes 1 0) (get_or bytes 2 0) ≡ Boards n = rw b at s.spelled in
     let x : get_or bytes 1 0 ≡ n = cc in
     let i = h.there in
     front bytes 0 1 (omega arith) refl ∙ ap₂ ◌∷◌ b (front bytes 1 2 (omega arith) refl ∙ ap (λ (y : ℕ). y ∷ drop 2 bytes) x)

@@ -9,21 +9,18 @@ use native.Mathlib.Omega.{arith}
 use lib.ListN.{length, length-append}
 use Rattle.lists.proofs.Splice.{splice-more, splice_none}
 use Rattle.lists.specs.Tab.{splice}
-use Rattle.commands.proofs.Admit.{in_links, next-link, next_pick}
-use Rattle.commands.proofs.Others.{NotLater, next_then, stopped_here}
+use Rattle.commands.proofs.Admit.{linkable, next-link, next_pick}
+use Rattle.commands.proofs.Fitted.{next_then, stopped_here}
 use Rattle.model.specs.declared.Board.{Board}
 use Rattle.model.specs.declared.Refusal.{Refusal}
 use Rattle.model.specs.declared.Refusal.TheVariants as cause
 use Rattle.model.specs.Causes.{first_or}
-use Rattle.commands.specs.declared.Command.{Command}
-use Rattle.commands.specs.declared.Command.TheVariants.{Later}
+use Rattle.std.specs.Prelude.{Result, Ok, Err}
 use Rattle.commands.specs.declared.Item.{Item}
 use Rattle.commands.specs.declared.Item.TheVariants.{Link, Pick, End}
 use Rattle.commands.specs.Causes.{next}
-use Rattle.recording.specs.declared.Part.TheVariants as partIs
-use Rattle.recording.specs.Format.{Content, refused, flipped, follow, commands, refusal_in, words, is_ended}
+use Rattle.recording.specs.Format.{Content, refused, flipped, follow, commands, words, is_ended}
 use Rattle.recording.specs.Answers.{GoneOver}
-use Rattle.recording.proofs.Others.{follow_other}
 
 pub words_snoc : (ps : List (List ℕ)) (p : List ℕ) → words (ps ++ (p ∷ [])) ≡ words ps ++ p
 unfolding words
@@ -47,7 +44,7 @@ nothing_kept false out = refl
 -- what is written was found whole: a reading that ends in a refusal writes nothing
 pub refused_over : (writes : Bool) (xs out₀ out : List ℕ) {whole : Content} {r : Refusal} → (writes ≡ true → is_ended whole ≡ true)
     → whole ≡ refused r
-    → out ≡ cond writes xs out₀ → GoneOver writes whole out₀ (partIs.Refused r) out
+    → out ≡ cond writes xs out₀ → GoneOver writes whole out₀ (Err r) out
 refused_over true xs out₀ out may e f = absurd (false≢true (rw e at (may refl)))
 refused_over false xs out₀ out may e f = rw e record { says = refl; leaves = f }
 
@@ -85,59 +82,61 @@ underway_start bytes n limit start links writes out =
 
 module _ {bytes : List ℕ} {n limit : ℕ} {whole : Content} {writes : Bool} {out₀ : List ℕ} {at count : ℕ} {links out : List ℕ}
     (a : Underway bytes n limit whole writes out₀ at count links out) where
-  pub underway_stop : (writes ≡ true → is_ended whole ≡ true) → length bytes ≤ at → GoneOver writes whole out₀ (partIs.Refused cause.Stopped) out
+  pub underway_stop : (writes ≡ true → is_ended whole ≡ true) → length bytes ≤ at → GoneOver writes whole out₀ (Err cause.Stopped) out
   underway_stop may h = refused_over writes _ out₀ out may (sym a.rest ∙ stopped bytes n limit a.turns at a.picks links h) a.front
 
-  -- x is what `next` returned
-  module _ {x : Command} (e : x ≡ next bytes n limit at count links) (h : at < length bytes) where
+  -- x is what `next` returned; the links are n words
+  module _ {x : Result Item Refusal} (e : x ≡ next bytes (length links) limit at count links) (w : length links ≡ n) (h : at < length bytes) where
+    next_is : x ≡ next bytes n limit at count links
+    next_is = rw w at e
+
     -- one turn: the next command, followed
-    turn : {y : Command} → x ≡ y → follow (commands bytes n limit (a.turns - 1)) n at a.picks links y ≡ whole
+    turn : {y : Result Item Refusal} → x ≡ y → follow (commands bytes n limit (a.turns - 1)) n at a.picks links y ≡ whole
     unfolding commands
     turn q =
         let k : a.turns ≡ suc (a.turns - 1) = omega (arith, a.enough) in
-        rw (sym q, e, a.counted) (rw k at a.rest)
+        rw (sym q, next_is, a.counted) (rw k at a.rest)
 
-    -- a command that cannot be taken apart ends the reading
-    pub underway_other : (writes ≡ true → is_ended whole ≡ true) → NotLater x → GoneOver writes whole out₀ (partIs.Refused (refusal_in x)) out
-    underway_other may k =
-        refused_over writes _ out₀ out may (sym (turn refl) ∙ follow_other (commands bytes n limit (a.turns - 1)) n at a.picks links x k) a.front
+    -- a command that is refused ends the reading
+    pub underway_refused : {r : Refusal} → (writes ≡ true → is_ended whole ≡ true) → x ≡ Err r → GoneOver writes whole out₀ (Err r) out
+    underway_refused may q = refused_over writes _ out₀ out may (sym (turn q)) a.front
 
-    -- i is the item that x was taken apart to
-    module _ {i : Item} (m : x ≡ Later i) where
-      -- a link's operands are an index of the links and a shift
-      pub underway_able : {f t : Board} {v : Bool} → i ≡ Link f t v → n ≡ length links → n ≤ 32 → (f.0 < length links) × (t.0 < 32)
-      underway_able {f} {t} {v} q l b =
-          in_links n f.0 t.0 (length links) (next-link bytes n limit at count links f t v (sym e ∙ m ∙ ap Later q)).able l b
+    -- a link's operands are an index of the links and a shift
+    pub underway_able : {f t : Board} {v : Bool} → x ≡ Ok (Link f t v) → n ≤ 32 → (f.0 < length links) × (t.0 < 32)
+    underway_able {f} {t} {v} q b =
+        let l = linkable n f.0 t.0 (next-link bytes n limit at count links f t v (sym next_is ∙ q)).able in
+        (omega (arith, l.from), omega (arith, l.to))
 
-      -- a pick is within the limit
-      pub underway_within : i ≡ Pick → count < limit
-      underway_within q = next_pick bytes n limit at count links (sym e ∙ m ∙ ap Later q)
+    -- a pick is within the limit
+    pub underway_within : x ≡ Ok Pick → count < limit
+    underway_within q = next_pick bytes n limit at count links (sym next_is ∙ q)
 
-      pub underway_link : {f t : Board} {v : Bool} → i ≡ Link f t v
-          → Underway bytes n limit whole writes out₀ (at + 3) count (flipped links f.0 t.0) out
-      underway_link q =
-          record {
-            turns = a.turns - 1;
-            picks = a.picks;
-            enough = omega (arith, a.enough);
-            counted = a.counted;
-            rest = turn (m ∙ ap Later q);
-            long = a.long;
-            front = a.front;
-          }
+    pub underway_link : {f t : Board} {v : Bool} → x ≡ Ok (Link f t v)
+        → Underway bytes n limit whole writes out₀ (at + 3) count (flipped links f.0 t.0) out
+    underway_link q =
+        record {
+          turns = a.turns - 1;
+          picks = a.picks;
+          enough = omega (arith, a.enough);
+          counted = a.counted;
+          rest = turn q;
+          long = a.long;
+          front = a.front;
+        }
 
-      pub underway_pick : i ≡ Pick → n ≡ length links
-          → Underway bytes n limit whole writes out₀ (at + 1) (count + 1) links (cond writes (splice (count * n) (length links) links out) out)
-      underway_pick q l =
-          record {
-            turns = a.turns - 1;
-            picks = a.picks ++ (links ∷ []);
-            enough = omega (arith, a.enough);
-            counted = ap (λ (k : ℕ). k + 1) a.counted ∙ sym (length-append a.picks (links ∷ []));
-            rest = turn (m ∙ ap Later q);
-            long = rw (words_snoc, length-append) (omega (arith, a.long));
-            front = rw words_snoc (put_kept writes (words a.picks) links out₀ out (count * n) a.long a.front);
-          }
+    pub underway_pick : x ≡ Ok Pick
+        → Underway bytes n limit whole writes out₀ (at + 1) (count + 1) links
+        (cond writes (splice (count * length links) (length links) links out) out)
+    underway_pick q =
+        record {
+          turns = a.turns - 1;
+          picks = a.picks ++ (links ∷ []);
+          enough = omega (arith, a.enough);
+          counted = ap (λ (k : ℕ). k + 1) a.counted ∙ sym (length-append a.picks (links ∷ []));
+          rest = turn q;
+          long = rw (words_snoc, length-append) (omega (arith, a.long));
+          front = rw words_snoc (put_kept writes (words a.picks) links out₀ out (count * length links) (rw w a.long) a.front);
+        }
 
-      pub underway_end : i ≡ End → GoneOver writes whole out₀ (partIs.Ended n count (at + 1)) out
-      underway_end q = rw (sym (turn (m ∙ ap Later q))) record { says = rw a.counted; leaves = a.front }
+    pub underway_end : x ≡ Ok End → GoneOver writes whole out₀ (Ok (record { boards = length links; picks = count; end = at + 1 })) out
+    underway_end q = rw (sym (turn q)) record { says = rw (w, a.counted); leaves = a.front }

@@ -1,10 +1,9 @@
 -- 01's number and values for each case of each answer, and what the calls answer and leave.
-use Rattle.std.specs.Prelude.{◌≡◌, Bool, cond, List, ℕ, length}
+use Rattle.std.specs.Prelude.{◌≡◌, Bool, cond, Result, Ok, Err, List, ℕ, length}
+use Rattle.model.specs.declared.Refusal.{Refusal}
 use Rattle.model.specs.Refusals.{number}
 use Rattle.recording.specs.declared.Part.{Part}
-use Rattle.recording.specs.declared.Part.TheVariants as partIs
 use Rattle.recording.specs.declared.Reading.{Reading}
-use Rattle.recording.specs.declared.Reading.TheVariants as readingIs
 use Rattle.recording.specs.Format.{Content, ended, refused, recording_at, read_file, output_after}
 
 -- the number of the refusal, 0 for none; n and the number of picks, 0 where refused
@@ -28,13 +27,13 @@ read_at c n k e = record { refusal = c; boards = n; picks = k; end = e }
 
 -- ---- the cases of the answers
 
-abbrev pub reading_says : Reading → Read
-reading_says (readingIs.Read n k) = read 0 n k
-reading_says (readingIs.Refused r) = read (number r) 0 0
+abbrev pub reading_says : Result Reading Refusal → Read
+reading_says (Ok r) = read 0 r.boards r.picks
+reading_says (Err c) = read (number c) 0 0
 
-abbrev pub part_says : Part → ReadAt
-part_says (partIs.Ended n k e) = read_at 0 n k e
-part_says (partIs.Refused r) = read_at (number r) 0 0 0
+abbrev pub part_says : Result Part Refusal → ReadAt
+part_says (Ok p) = read_at 0 p.boards p.picks p.end
+part_says (Err c) = read_at (number c) 0 0 0
 
 -- ---- what the file says
 
@@ -42,12 +41,12 @@ abbrev pub file_says : Content → Read
 file_says (ended n picks end) = read 0 n (length picks)
 file_says (refused r) = read (number r) 0 0
 
-abbrev pub part_of : Content → Part
-part_of (ended n picks end) = partIs.Ended n (length picks) end
-part_of (refused r) = partIs.Refused r
+abbrev pub part_of : Content → Result Part Refusal
+part_of (ended n picks end) = Ok (record { boards = n; picks = length picks; end = end })
+part_of (refused r) = Err r
 
 -- going over a recording answers what it is, and leaves its words only where it writes
-pub record GoneOver (writes : Bool) (o : Content) (out : List ℕ) (r : Part) (left : List ℕ) : Type 0 where
+pub record GoneOver (writes : Bool) (o : Content) (out : List ℕ) (r : Result Part Refusal) (left : List ℕ) : Type 0 where
   pub says : r ≡ part_of o
   pub leaves : left ≡ cond writes (output_after o out) out
 

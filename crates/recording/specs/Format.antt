@@ -1,12 +1,11 @@
 -- What a recording file says, and which words a reading of it leaves: 01, "Recording files". Why a command is refused is in commands, `Causes`.
-use Rattle.std.specs.Prelude.{Bool, true, false, List, [], ◌∷◌, ◌++◌, ℕ, zero, suc, ◌+◌, ◌^◌, ltb, length, get_or, set}
+use Rattle.std.specs.Prelude.{Bool, true, false, Result, Ok, Err, List, [], ◌∷◌, ◌++◌, ℕ, zero, suc, ◌+◌, ◌^◌, ltb, length, get_or, set}
 use Rattle.std.specs.Int.Bits.{bit_xor}
 use Rattle.model.specs.declared.Refusal.{Refusal}
 use Rattle.model.specs.declared.Refusal.TheVariants as cause
 use Rattle.model.specs.Causes.{first_or}
 use Rattle.lists.specs.Tab.{zeros, splice}
-use Rattle.commands.specs.declared.Command.{Command}
-use Rattle.commands.specs.declared.Command.TheVariants.{Boards, Later, Not}
+use Rattle.commands.specs.declared.Item.{Item}
 use Rattle.commands.specs.declared.Item.TheVariants.{Link, Pick, End}
 use Rattle.commands.specs.Causes.{head_at, next}
 
@@ -21,13 +20,12 @@ pub data Content : Type 0 where
 unfoldable pub flipped : List ℕ → ℕ → ℕ → List ℕ
 flipped links a b = set links a (bit_xor (get_or links a 0) (2 ^ b))
 
--- a command that is not refused is followed: `more` reads on from a place, with the picks and the open links
-abbrev pub follow : (ℕ → List (List ℕ) → List ℕ → Content) → ℕ → ℕ → List (List ℕ) → List ℕ → Command → Content
-follow more n at picks links (Later (Link a b v)) = more (at + 3) picks (flipped links a.0 b.0)
-follow more n at picks links (Later Pick) = more (at + 1) (picks ++ (links ∷ [])) links
-follow more n at picks links (Later End) = ended n picks (at + 1)
-follow more n at picks links (Boards m) = refused cause.Command
-follow more n at picks links (Not r) = refused r
+-- a command that is not refused is followed, and one that is ends the reading: `more` reads on from a place, with the picks and the open links
+abbrev pub follow : (ℕ → List (List ℕ) → List ℕ → Content) → ℕ → ℕ → List (List ℕ) → List ℕ → Result Item Refusal → Content
+follow more n at picks links (Ok (Link a b v)) = more (at + 3) picks (flipped links a.0 b.0)
+follow more n at picks links (Ok Pick) = more (at + 1) (picks ++ (links ∷ [])) links
+follow more n at picks links (Ok End) = ended n picks (at + 1)
+follow more n at picks links (Err r) = refused r
 
 -- the commands after the first, at most `turns` of them: a file has no more commands than bytes
 unfoldable pub commands : List ℕ → ℕ → ℕ → ℕ → ℕ → List (List ℕ) → List ℕ → Content
@@ -35,20 +33,13 @@ commands bytes n limit zero at picks links = refused cause.Stopped
 commands bytes n limit (suc turns) at picks links =
     follow (commands bytes n limit turns) n at picks links (next bytes n limit at (length picks) links)
 
--- why a command ends the reading: the cause that refused it, or that it may not stand where it does
-abbrev pub refusal_in : Command → Refusal
-refusal_in (Not r) = r
-refusal_in (Boards n) = cause.Command
-refusal_in (Later i) = cause.Command
-
 -- what follows the 42 and its n; all links start shut
 abbrev pub body : ℕ → List ℕ → ℕ → ℕ → Content
 body limit bytes start n = commands bytes n limit (length bytes) (start + 2) [] (zeros n)
 
-abbrev pub after_head : ℕ → List ℕ → ℕ → Command → Content
-after_head limit bytes start (Boards n) = body limit bytes start n
-after_head limit bytes start (Later i) = refused cause.Command
-after_head limit bytes start (Not r) = refused r
+abbrev pub after_head : ℕ → List ℕ → ℕ → Result ℕ Refusal → Content
+after_head limit bytes start (Ok n) = body limit bytes start n
+after_head limit bytes start (Err r) = refused r
 
 -- the recording that starts at a place of the file and ends with its 45
 unfoldable pub recording_at : ℕ → ℕ → List ℕ → ℕ → Content
@@ -61,6 +52,7 @@ alone bytes (refused r) = refused r
 
 -- a whole file, with room for `room` words of output
 unfoldable pub read_file : ℕ → ℕ → List ℕ → Content
+unfolding first_or
 read_file limit room bytes = alone bytes (recording_at limit room bytes 0)
 
 -- ---- the output words

@@ -1,6 +1,7 @@
 -- What the checks of the calls find, for every input: the causes of document 01 in its order. A cause is its number, 0 where there is none.
-use Rattle.std.specs.Prelude.{ℕ, ◌+◌, ◌*◌, ◌/◌, ◌%◌, ◌&&◌, not, List, [], ◌∷◌, ◌++◌, eqb, leb, ltb, length}
+use Rattle.std.specs.Prelude.{ℕ, ◌+◌, ◌*◌, ◌/◌, ◌%◌, ◌&&◌, not, List, [], ◌∷◌, ◌++◌, eqb, leb, ltb, length, Result, Ok, Err, ⊤}
 use Rattle.model.specs.Causes.{between, Causes, first_of}
+use Rattle.model.specs.declared.Refusal.{Refusal}
 use Rattle.model.specs.Refusals.{number}
 use Rattle.checks.specs.Checks.{clean, listed}
 use Rattle.checks.specs.Lent.{clean_picks}
@@ -8,13 +9,11 @@ use Rattle.measures.specs.Kit.{kit}
 use Rattle.area.specs.Parts.{width_of, table_at}
 use Rattle.place.specs.declared.Place.{Place}
 use Rattle.place.specs.Places.{sound_place}
-use Rattle.verdicts.specs.declared.Verdict.{Verdict}
-use Rattle.verdicts.specs.declared.Verdict.TheVariants.{Clear, Refuse}
 
 -- the number of the first cause, 0 for none
-abbrev pub verdict_says : Verdict → ℕ
-verdict_says Clear = 0
-verdict_says (Refuse c) = number c
+abbrev pub verdict_says : Result ⊤ Refusal → ℕ
+verdict_says (Ok x) = 0
+verdict_says (Err c) = number c
 
 -- the words that the area needs
 abbrev pub needed : ℕ → ℕ → ℕ → ℕ

@@ -12,13 +12,6 @@ ghost use Rattle.verdicts.specs.Verdicts.{open_verdict, pick_verdict, whole_verd
 use model::Refusal;
 use place::Place;
 
-// What the checks of a call find.
-#[derive(Clone, Copy)]
-pub enum Verdict {
-    Clear,
-    Refuse(Refusal),
-}
-
 // The words that an area needs.
 pub fn needed_words(measure: usize, n: usize, limit: usize) -> usize
     requires { (n ≤ 32) × (limit ≤ 4096) }
@@ -37,62 +30,65 @@ fn is_short(area: &[u32], measure: usize, n: usize, limit: usize) -> bool
 }
 
 // The causes that every recording lent whole is asked first, in their order: 10, 8, 3.
-pub fn lent_verdict(words: &[u32], n: usize) -> Verdict
+#[tactic(auto, unfolding(model::specs::Causes::first_of))]
+pub fn lent_verdict(words: &[u32], n: usize) -> Result<(), Refusal>
     requires { 1 ≤ n }
     ensures { verdict_says result ≡ first_of (lent_causes n words.now) }
 {
     if words.len() % n != 0 {
-        return Verdict::Refuse(Refusal::Shape);
+        return Err(Refusal::Shape);
     }
     let m = words.len() / n;
     if m == 0 {
-        return Verdict::Refuse(Refusal::NoPick);
+        return Err(Refusal::NoPick);
     }
     if 4096 < m {
-        return Verdict::Refuse(Refusal::Picks);
+        return Err(Refusal::Picks);
     }
-    Verdict::Clear
+    Ok(())
 }
 
 // ---- opening
 
-fn room_verdict(area: &[u32], measure: usize, n: usize, limit: usize) -> Verdict
+#[tactic(auto, unfolding(model::specs::Causes::first_of))]
+fn room_verdict(area: &[u32], measure: usize, n: usize, limit: usize) -> Result<(), Refusal>
     requires { (n ≤ 32) × (limit ≤ 4096) }
     ensures { verdict_says result ≡ first_of ((ltb (length area.now) (needed measure n limit), 4) ∷ []) }
 {
     if is_short(area, measure, n, limit) {
-        return Verdict::Refuse(Refusal::Room);
+        return Err(Refusal::Room);
     }
-    Verdict::Clear
+    Ok(())
 }
 
 // The causes of an opening, in their order: 1, 2, 3, 10, 5, 4. Only measure 2 has a footprint.
+#[tactic(auto, unfolding(model::specs::Causes::first_of, model::specs::Causes::between, crate::specs::Verdicts::open_verdict))]
 pub fn open_verdict(
     n: usize,
     measure: usize,
     limit: usize,
     footprint: &[u32],
     area: &[u32],
-) -> Verdict
+) -> Result<(), Refusal>
     ensures { verdict_says result ≡ open_verdict n measure limit footprint.now area.now }
 {
     if !model::is_between(2, n, 32) {
-        return Verdict::Refuse(Refusal::Boards);
+        return Err(Refusal::Boards);
     }
     if !model::is_between(1, measure, 4) {
-        return Verdict::Refuse(Refusal::Measure);
+        return Err(Refusal::Measure);
     }
     if !model::is_between(1, limit, 4096) {
-        return Verdict::Refuse(Refusal::Picks);
+        return Err(Refusal::Picks);
     }
     if measure != 2 {
         return room_verdict(area, measure, n, limit);
     }
     if footprint.len() != n {
-        return Verdict::Refuse(Refusal::Shape);
+        return Err(Refusal::Shape);
     }
     if !checks::is_clean(footprint, n) {
-        return Verdict::Refuse(Refusal::Forbidden);
+        return Err(Refusal::Forbidden);
     }
     room_verdict(area, measure, n, limit)
 }
@@ -110,76 +106,78 @@ fn is_listed(area: &[u32], words: &[u32], measure: usize, n: usize, limit: usize
 }
 
 // The causes of a pick, in their order: 16, 7, 10, 5, 4, 6.
-pub fn pick_verdict(p: Place, area: &[u32], words: &[u32]) -> Verdict
+#[tactic(auto, unfolding(model::specs::Causes::first_of, crate::specs::Verdicts::pick_verdict))]
+pub fn pick_verdict(p: Place, area: &[u32], words: &[u32]) -> Result<(), Refusal>
     ensures { verdict_says result ≡ pick_verdict p area.now words.now }
 {
     let n = p.settings.boards;
     let limit = p.settings.limit;
     let measure = p.settings.measure;
     if !p.is_sound() {
-        return Verdict::Refuse(Refusal::BadPlace);
+        return Err(Refusal::BadPlace);
     }
     if limit <= p.window.taken.0 {
-        return Verdict::Refuse(Refusal::Full);
+        return Err(Refusal::Full);
     }
     if words.len() != n {
-        return Verdict::Refuse(Refusal::Shape);
+        return Err(Refusal::Shape);
     }
     if !checks::is_clean(words, n) {
-        return Verdict::Refuse(Refusal::Forbidden);
+        return Err(Refusal::Forbidden);
     }
     if is_short(area, measure, n, limit) {
-        return Verdict::Refuse(Refusal::Room);
+        return Err(Refusal::Room);
     }
     if measure != 2 {
-        return Verdict::Clear;
+        return Ok(());
     }
     if !is_listed(area, words, measure, n, limit) {
-        return Verdict::Refuse(Refusal::Unlisted);
+        return Err(Refusal::Unlisted);
     }
-    Verdict::Clear
+    Ok(())
 }
 
 // ---- whole run
 
 // The causes after those of every lent recording: 4, 5.
-fn run_verdict(n: usize, measure: usize, words: &[u32], m: usize, area: &[u32]) -> Verdict
+#[tactic(auto, unfolding(model::specs::Causes::first_of))]
+fn run_verdict(n: usize, measure: usize, words: &[u32], m: usize, area: &[u32]) -> Result<(), Refusal>
     requires { (n ≤ 32) × (m ≤ 4096) × (m * n ≤ length words.now) }
     ensures { verdict_says result ≡ first_of (run_causes n measure words.now m area.now) }
 {
     if is_short(area, measure, n, m) {
-        return Verdict::Refuse(Refusal::Room);
+        return Err(Refusal::Room);
     }
     if !checks::are_clean(words, n, m) {
-        return Verdict::Refuse(Refusal::Forbidden);
+        return Err(Refusal::Forbidden);
     }
-    Verdict::Clear
+    Ok(())
 }
 
 // The causes of a whole run, in their order: 1, 2, 10, 8, 3, 4, 5.
-pub fn whole_verdict(n: usize, measure: usize, words: &[u32], area: &[u32]) -> Verdict
+#[tactic(auto, unfolding(model::specs::Causes::first_of, model::specs::Causes::between, crate::specs::Verdicts::whole_verdict))]
+pub fn whole_verdict(n: usize, measure: usize, words: &[u32], area: &[u32]) -> Result<(), Refusal>
     ensures { verdict_says result ≡ whole_verdict n measure words.now area.now }
 {
     if !model::is_between(2, n, 32) {
-        return Verdict::Refuse(Refusal::Boards);
+        return Err(Refusal::Boards);
     }
     if !model::is_between(1, measure, 4) {
-        return Verdict::Refuse(Refusal::Measure);
+        return Err(Refusal::Measure);
     }
-    match lent_verdict(words, n) {
-        Verdict::Clear => run_verdict(n, measure, words, words.len() / n, area),
-        Verdict::Refuse(c) => Verdict::Refuse(c),
-    }
+    lent_verdict(words, n)?;
+    run_verdict(n, measure, words, words.len() / n, area)
 }
 
 // ---- a window length
 
 // The cause of a window length k where m picks are lent: 17.
-pub fn window_verdict(k: usize, m: usize) -> Verdict
+#[tactic(auto, unfolding(model::specs::Causes::first_of))]
+pub fn window_verdict(k: usize, m: usize) -> Result<(), Refusal>
     ensures { verdict_says result ≡ first_of (window_causes k m) }
 {
     if !model::is_between(1, k, m) {
-        return Verdict::Refuse(Refusal::WindowLength);
+        return Err(Refusal::WindowLength);
     }
-    Verdict::Clear
+    Ok(())
 }

@@ -14,8 +14,8 @@ overflow_add-at c = omega (arith, fits c.requires.2, c.requires.1)
 pub offset_bounds-area-at : goal.offset_bounds-area-at
 offset_bounds-area-at c = omega (arith, fits c.requires.2, c.requires.1)
 
-pub slice_bounds-copy_over-end : goal.slice_bounds-copy_over-end
-slice_bounds-copy_over-end c = omega (arith, fits c.requires.2, c.requires.1)
+pub slice_bounds-copy_from_slice-end : goal.slice_bounds-copy_from_slice-end
+slice_bounds-copy_from_slice-end c = omega (arith, fits c.requires.2, c.requires.1)
 
 pub returns : goal.returns
-returns c = simp add-sub_cancel_left at c.copy_over.ensures
+returns c = simp add-sub_cancel_left at c.copy_from_slice.ensures.after

@@ -3,16 +3,21 @@
 use mathlib.Core.Path.{ap, ◌∙◌}
 use native.Mathlib.Omega.{arith}
 use Rattle.place.specs.declared.Place.{Place}
+use Rattle.place.specs.Places.{fresh, charged}
 use Rattle.steps.specs.Walk.{reported}
 use Rattle.calls.specs.Calls.{report_says, whole_start, whole_report}
 use Rattle.calls.proofs.Loops.{whole_starts, whole_ends, whole_beyond, list-cost}
 use Rattle.calls.proofs.whole_run.Goals as goal
 
 pub take_picks-q-requires : goal.take_picks-q-requires
-unfolding whole_start
+unfolding whole_start charged fresh
 take_picks-q-requires c =
-    whole_starts _ _ _ _ _ _ c.requires (list-cost c.args.measure c.args.m c.requires.cap) c.whole_start-p.ensures.place
-    c.whole_start-p.auto.area
+    let b = c.requires.some_boards in
+    let e = ap (λ (x : Place). x.settings.boards) c.whole_start-p.ensures.place in (
+      whole_starts _ _ _ _ _ _ c.requires (list-cost c.args.measure c.args.m c.requires.cap) c.whole_start-p.ensures.place
+          c.whole_start-p.auto.area,
+      omega arith,
+    )
 
 pub report-requires : goal.report-requires
 report-requires c =

@@ -2,6 +2,9 @@
 -- Assumes nothing.
 use Prim.Native.Nat.{ℕ, ◌≤◌}
 use mathlib.Core.Path.{ap, sym, ◌∙◌, subst}
+use native.Mathlib.Omega.{arith}
+use Rattle.place.specs.declared.Place.{Place}
+use Rattle.place.specs.Places.{fresh, charged}
 use Rattle.verdicts.specs.Verdicts.{needed}
 use Rattle.calls.specs.Calls.{whole_start}
 use Rattle.calls.proofs.Loops.{whole_starts, whole_beyond, list-cost}
@@ -10,12 +13,15 @@ use Rattle.decision.proofs.Held.{held_ends}
 use Rattle.decision.proofs.decide_run.Goals as goal
 
 pub hold_window-q-requires : goal.hold_window-q-requires
-unfolding whole_start
-hold_window-q-requires c = (
-  whole_starts _ _ _ _ _ _ c.requires.0 (list-cost c.args.measure c.args.m c.requires.0.cap) c.whole_start-p.ensures.place
-      c.whole_start-p.auto.area,
-  c.requires.1,
-)
+unfolding whole_start charged fresh
+hold_window-q-requires c =
+    let b = c.requires.0.some_boards in
+    let e = ap (λ (x : Place). x.settings.boards) c.whole_start-p.ensures.place in (
+      whole_starts _ _ _ _ _ _ c.requires.0 (list-cost c.args.measure c.args.m c.requires.0.cap) c.whole_start-p.ensures.place
+          c.whole_start-p.auto.area,
+      c.requires.1,
+      omega arith,
+    )
 
 pub zero_needed-requires : goal.zero_needed-requires
 zero_needed-requires c = (

@@ -1,61 +1,30 @@
--- `reach::write_table` meets its contract. The invariant is the table of the first k picks.
+-- `reach::write_table` meets its contract. The invariant is the table of the first picks, and the words of the others are left.
 -- Assumes nothing.
-use Rattle.reach.proofs.Picks.{reach_turn, reach_first}
-use Rattle.links.specs.Tables.{within}
-use native.Mathlib.Nat.{le_refl}
-use mathlib.Core.Path.{◌≡◌, sym, ap, ◌∙◌}
-use native.Mathlib.Omega.{arith}
-use Rattle.links.proofs.Picks.{lent_end, lent_part, first_lent}
-use Rattle.measures.specs.Kit.{hops01}
+use mathlib.Core.Path.{sym, ◌∙◌}
+use Prim.Native.Nat.{◌+◌}
+use Rattle.reach.proofs.Picks.{reached_first, reached_turn, reached_all}
 use Rattle.reach.proofs.write_table.Goals as goal
 
-pub slice_bounds-close_over-end : goal.slice_bounds-close_over-end
-slice_bounds-close_over-end c =
-    omega (arith, lent_end c.args.n {k = 0} {m = c.args.m} c.requires.1.1.0)
-
-pub loop-k-init : goal.loop-k-init
-loop-k-init c = (
-  le_refl 1,
+pub loop-pick-init : goal.loop-pick-init
+loop-pick-init c = rw c.into_iter-pick-iterator.ensures.into_iter_gives (
+  c.chunks_exact-pick-items.ensures.size,
   (
-    c.requires.1.1.0,
-    (
-      c.close_over.auto.out ∙ sym c.requires.1.0,
-      c.close_over.ensures ∙ ap (within c.args.n hops01)
-          (first_lent c.args.n c.args.words.now) ∙ sym (reach_first c.args.n hops01 c.args.words.now),
-    ),
+    c.close_over.auto.out ∙ sym c.requires.1.1.0,
+    (1, rw c.chunks_exact-pick-items.ensures.rest (reached_first c.requires.1.1.1.0 c.close_over.ensures)),
   ),
 )
 
-pub overflow_mul-at : goal.overflow_mul-at
-overflow_mul-at c = omega (arith, lent_end c.args.n c.loop-k-test.true)
-
-pub overflow_add-at : goal.overflow_add-at
-overflow_add-at c =
-    omega (arith, lent_end c.args.n c.loop-k-test.true)
-
-pub offset_bounds-words-at : goal.offset_bounds-words-at
-offset_bounds-words-at c =
-    omega (arith, lent_end c.args.n c.loop-k-test.true)
-
-pub slice_bounds-add_pick-end : goal.slice_bounds-add_pick-end
-slice_bounds-add_pick-end c =
-    omega (arith, lent_end c.args.n c.loop-k-test.true)
-
-pub loop-k-preserved : goal.loop-k-preserved
-loop-k-preserved c = (
-  omega arith,
-  (
-    omega (arith, c.loop-k-test.true),
-    (
-      c.add_pick.auto.out ∙ c.loop-k.invariant.1.1.0,
-      reach_turn
-          c.args.n hops01 c.loop-k.k c.args.words.now c.loop-k.out c.add_pick.new.out _ c.loop-k.invariant.0
-          c.loop-k.invariant.1.1.1 (lent_part
-          c.args.n c.loop-k.k c.args.words.now) c.add_pick.ensures,
-    ),
-  ),
-)
+pub loop-pick-preserved : goal.loop-pick-preserved
+loop-pick-preserved c =
+    let i = c.loop-pick.invariant in
+    let s = c.in-Some.ensures.steps in (
+      s.0 ∙ i.0,
+      (
+        c.add_pick.auto.out ∙ i.1.0,
+        (i.1.1.0 + 1, reached_turn _ c.requires.1.1.1.1.1 c.requires.0 i.1.1.1 s.1.0 (s.1.1 ∙ i.0) c.add_pick.ensures),
+      ),
+    )
 
 pub returns : goal.returns
 returns c =
-    let e : c.loop-k.k ≡ c.args.m = omega arith in rw e at c.loop-k.invariant.1.1.1
+    let i = c.loop-pick.invariant in reached_all c.requires.1.1.1.1.1 i.1.1.1 (rw i.0 at c.in-None.ensures.steps.1.0)

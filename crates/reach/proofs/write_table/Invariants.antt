@@ -1,12 +1,12 @@
--- `reach::write_table` meets its contract. The invariant is the table of the first k picks.
+-- `reach::write_table` meets its contract. The invariant is the table of the first picks, and the words of the others are left.
 -- Assumes nothing.
 use mathlib.Core.Path.{◌≡◌}
-use Prim.Native.Nat.{◌≤◌}
+use Prim.Native.Nat.{ℕ}
 use lib.ListN.{length}
-use Rattle.links.specs.Composed.{reach}
-use Rattle.checks.specs.Lent.{lent_picks}
 use Rattle.measures.specs.Kit.{hops01}
+use Rattle.reach.proofs.Picks.{Reached}
 use Rattle.reach.proofs.write_table.Given as goal
 
-abbrev pub invariant-loop-k : goal.invariant-loop-k
-invariant-loop-k l = (1 ≤ l.k) × ((l.k ≤ l.m) × ((length l.out ≡ l.n) × (l.out ≡ reach l.n hops01 (lent_picks l.n l.words l.k))))
+abbrev pub invariant-loop-pick : goal.invariant-loop-pick
+invariant-loop-pick l =
+    (l.pick-iterator.size ≡ l.n) × ((length l.out ≡ l.n) × ((k : ℕ) × Reached l.n hops01 l.m l.words k l.pick-iterator.rest.now l.out))
