@@ -1,11 +1,9 @@
 -- What a part stores of a table: all that the proofs above these laws know of it. Assumes nothing.
-use mathlib.Core.Path.{◌≡◌, refl, ap, ◌∙◌}
-use mathlib.Core.List.{List}
-use Prim.Native.Nat.{ℕ, ◌+◌, ◌-◌, ◌*◌, ◌≤◌}
-use native.Mathlib.Nat.{le_refl, add-sub_cancel_left}
-use Rattle.std.specs.List.{copy_within}
-use Rattle.std.proofs.lemmas.List.{drop-drop}
-use Rattle.std.proofs.Common.{append_assoc}
+use mathlib.Core.Path.{◌≡◌, refl, sym, ap, ◌∙◌}
+use mathlib.Core.List.{List, ◌++◌}
+use Prim.Native.Nat.{ℕ, ◌-◌, ◌*◌, ◌≤◌}
+use native.Mathlib.Nat.{le_refl}
+use Rattle.std.proofs.lemmas.List.{take-append-drop}
 use lib.ListN.{length, take, drop}
 use Rattle.lists.specs.Tab.{splice}
 use Rattle.measures.specs.Kit.{Kit}
@@ -48,13 +46,14 @@ module _ (K : Kit) (a : List ℕ) (i : ℕ) {e k : ℕ} (p : e ≡ part_size K) 
   unfolding table stored part stored_size
   onto_lent f = rw (p, q)
 
--- k words copied within the area
-pub copied_within : (k at from : ℕ) (a : List ℕ) → copy_within a from (from + k) at ≡ splice at k (take k (drop from a)) a
-unfolding splice
-copied_within k at from a = simp (add-sub_cancel_left, drop-drop, append_assoc)
-
 -- a table read from part l and written to part i
 pub copy_lent : (K : Kit) (a : List ℕ) (i l : ℕ) {e k : ℕ} → e ≡ part_size K → k ≡ K.size
     → splice ((i - 1) * e) k (take k (drop ((l - 1) * e) a)) a ≡ copy_at K a i l
 unfolding copy_at
 copy_lent K a i l {e} {k} p q = ap (λ (t : List ℕ). splice ((i - 1) * e) k t a) (table_lent K a l p q) ∙ stored_lent K a i p q (table_at K a l)
+
+-- a part that is copied onto itself
+pub copy_same : (K : Kit) (a : List ℕ) (i : ℕ) → a ≡ copy_at K a i i
+unfolding copy_at stored table part splice stored_size
+copy_same K a i =
+    sym (ap (λ (t : List ℕ). take ((i - 1) * K.size) a ++ t) (take-append-drop K.size (drop ((i - 1) * K.size) a)) ∙ take-append-drop ((i - 1) * K.size) a)

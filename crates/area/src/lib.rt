@@ -1,6 +1,5 @@
 // Parts of a lent area: part i, of E words, begins at word (i - 1) × E, for i from 1 on. Each function but `zero_first` changes one part at most. A part is
 // found by E and its table lent by the table's own size, which is as large today.
-// The later table that a composition reads is copied first: a part that is written and one that is read cannot be lent at the same time.
 #![tactic(auto)]
 
 ghost use Rattle.std.specs.Prelude.{◌≡◌, ◌≢◌, ◌-◌, ◌*◌, ◌^◌, ◌≤◌, ◌<◌, length, take, drop};
@@ -16,15 +15,6 @@ pub fn width(measure: usize, n: usize) -> usize
     ensures { result ≡ width_of measure n }
 {
     measures::size(measure, n)
-}
-
-// The table of part i, k words from where the part begins by e, which is E, copied out.
-fn take_table(out: &mut [u32], area: &[u32], e: usize, k: usize, i: usize)
-    requires { (k ≡ length out.old) × (k ≤ e) × Has e (length area.now) i }
-    ensures { out.new ≡ take k (drop ((i - 1) * e) area.now) }
-{
-    let at = (i - 1) * e;
-    out.copy_from_slice(&area[at..at + k]);
 }
 
 // ---- one part written
@@ -51,117 +41,73 @@ fn compose_with(area: &mut [u32], words: &[u32], measure: usize, n: usize, d: us
     measures::compose_words(&mut area[at..at + n], words, measure, n);
 }
 
-// The same of the table of part r, by way of right, which takes its copy.
-fn compose_words_by(
-    area: &mut [u32],
-    right: &mut [u32],
-    measure: usize,
-    n: usize,
-    d: usize,
-    r: usize,
-)
-    requires { (n ≤ 32) × (measure ≢ 4) × (measure ≢ 3) × (n ≡ length right.old)
-        × Has (width_of measure n) (length area.old) d × Has (width_of measure n) (length area.old) r }
-    ensures { area.new ≡ compose_at (kit measure n) area.old d d r }
+// Composes the table of part d onto itself, from a copy: no part is lent twice.
+fn compose_itself(area: &mut [u32], measure: usize, n: usize, d: usize)
+    requires { (n ≤ 32) × Has (width_of measure n) (length area.old) d }
+    ensures { area.new ≡ compose_at (kit measure n) area.old d d d }
 {
     let e = width(measure, n);
-    take_table(right, area, e, n, r);
-    compose_with(area, right, measure, n, d);
+    let k = measures::size(measure, n);
+    let at = (d - 1) * e;
+    let mut right = lists::zeroed::<2048>();
+    right[..k].copy_from_slice(&area[at..at + k]);
+    measures::compose(&mut area[at..at + k], &right[..k], measure, n);
 }
 
-// Composes part r onto part d under measures 1 and 2. The copy of so few words costs less in an array of its own than in one that is lent: the compiler
-// then knows that it overlaps nothing.
-fn compose_words(area: &mut [u32], measure: usize, n: usize, d: usize, r: usize)
-    requires { (n ≤ 32) × (measure ≢ 4) × (measure ≢ 3)
-        × Has (width_of measure n) (length area.old) d × Has (width_of measure n) (length area.old) r }
+// Composes the table of part r, the later, onto that of part d, the earlier: the area is cut between them, so that both are lent at the same time.
+pub fn compose_onto(area: &mut [u32], measure: usize, n: usize, d: usize, r: usize)
+    requires { (n ≤ 32) × Has (width_of measure n) (length area.old) d × Has (width_of measure n) (length area.old) r }
     ensures { area.new ≡ compose_at (kit measure n) area.old d d r }
 {
-    let mut right = lists::no_words();
-    compose_words_by(area, &mut right[0..n], measure, n, d, r);
-}
-
-// Composes part r onto part d under measure 3, by way of right, which takes the copy of the later table.
-fn compose_links(area: &mut [u32], right: &mut [u32], n: usize, d: usize, r: usize)
-    requires { (n ≤ 32) × (n ≡ length right.old) × Has (width_of 3 n) (length area.old) d × Has (width_of 3 n) (length area.old) r }
-    ensures { area.new ≡ compose_at (kit 3 n) area.old d d r }
-{
-    let e = width(3, n);
-    take_table(right, area, e, n, r);
-    let at = (d - 1) * e;
-    joins::join_over(&mut area[at..at + n], right, n);
-}
-
-// The same under measure 4.
-fn compose_times(area: &mut [u32], right: &mut [u32], n: usize, d: usize, r: usize)
-    requires { (n ≤ 32) × (size_of 4 n ≡ length right.old) × Has (width_of 4 n) (length area.old) d × Has (width_of 4 n) (length area.old) r }
-    ensures { area.new ≡ compose_at (kit 4 n) area.old d d r }
-{
-    let e = width(4, n);
-    let k = measures::size(4, n);
-    take_table(right, area, e, k, r);
-    let at = (d - 1) * e;
-    folds::compose_over(&mut area[at..at + k], right, n);
-}
-
-// Composes the table of part r, the later, onto that of part d, the earlier. right has a table's words; what it holds before and after is free.
-pub fn compose_onto(
-    area: &mut [u32],
-    right: &mut [u32],
-    measure: usize,
-    n: usize,
-    d: usize,
-    r: usize,
-)
-    requires { (n ≤ 32) × (size_of measure n ≡ length right.old)
-        × Has (width_of measure n) (length area.old) d × Has (width_of measure n) (length area.old) r }
-    ensures { area.new ≡ compose_at (kit measure n) area.old d d r }
-{
-    if measure == 4 {
-        compose_times(area, right, n, d, r);
+    if d == r {
+        compose_itself(area, measure, n, d);
         return;
     }
-    if measure == 3 {
-        compose_links(area, right, n, d, r);
+    let e = width(measure, n);
+    let k = measures::size(measure, n);
+    if d < r {
+        let at = (d - 1) * e;
+        let (front, back) = area.split_at_mut((r - 1) * e);
+        measures::compose(&mut front[at..at + k], &back[..k], measure, n);
         return;
     }
-    compose_words(area, measure, n, d, r);
+    let at = (r - 1) * e;
+    let (front, back) = area.split_at_mut((d - 1) * e);
+    measures::compose(&mut back[..k], &front[at..at + k], measure, n);
 }
 
 // The same where the table of part r is the own table of pick r. Under measures 1 and 2 that is the pick's words, which are composed from where they are.
-pub fn compose_own(
-    area: &mut [u32],
-    words: &[u32],
-    right: &mut [u32],
-    measure: usize,
-    n: usize,
-    d: usize,
-    r: usize,
-)
-    requires { (n ≤ 32) × (size_of measure n ≡ length right.old)
-        × Has (width_of measure n) (length area.old) d × Has (width_of measure n) (length area.old) r
+pub fn compose_own(area: &mut [u32], words: &[u32], measure: usize, n: usize, d: usize, r: usize)
+    requires { (n ≤ 32) × Has (width_of measure n) (length area.old) d × Has (width_of measure n) (length area.old) r
         × (n ≡ length words.now) × (table_at (kit measure n) area.old r ≡ own_of hops01 measure n r words.now) }
     ensures { area.new ≡ compose_at (kit measure n) area.old d d r }
 {
-    if measure == 4 {
-        compose_times(area, right, n, d, r);
-        return;
+    match measure {
+        3 | 4 => compose_onto(area, measure, n, d, r),
+        _ => compose_with(area, words, measure, n, d),
     }
-    if measure == 3 {
-        compose_links(area, right, n, d, r);
-        return;
-    }
-    compose_with(area, words, measure, n, d);
 }
 
-// The table of part l becomes that of part d; d may be l.
+// The table of part l becomes that of part d; d may be l. The area is cut as for a composition, so that the copy is one move of memory: `copy_within` goes
+// word by word, which costs twice the instructions.
 pub fn copy_part(area: &mut [u32], measure: usize, n: usize, d: usize, l: usize)
     requires { (n ≤ 32) × (Has (width_of measure n) (length area.old) d × Has (width_of measure n) (length area.old) l) }
     ensures { area.new ≡ copy_at (kit measure n) area.old d l }
 {
+    if d == l {
+        return;
+    }
     let e = width(measure, n);
     let k = measures::size(measure, n);
-    let from = (l - 1) * e;
-    area.copy_within(from..from + k, (d - 1) * e);
+    if d < l {
+        let at = (d - 1) * e;
+        let (front, back) = area.split_at_mut((l - 1) * e);
+        front[at..at + k].copy_from_slice(&back[..k]);
+        return;
+    }
+    let at = (l - 1) * e;
+    let (front, back) = area.split_at_mut((d - 1) * e);
+    back[..k].copy_from_slice(&front[at..at + k]);
 }
 
 // Part d becomes zero.

@@ -2,13 +2,12 @@
 #![tactic(auto)]
 
 ghost use Rattle.std.specs.Prelude.{◌≡◌, ◌≢◌, ◌-◌, ◌*◌, ◌≤◌, length};
-ghost use Rattle.measures.specs.Kit.{size_of};
 ghost use Rattle.area.specs.Parts.{zeroed};
 ghost use Rattle.place.specs.Places.{charged};
 ghost use Rattle.verdicts.specs.Verdicts.{needed};
 ghost use Rattle.verdicts.specs.Fit.{Clears, Runs};
 ghost use Rattle.steps.specs.Walk.{kit_of, stepped, reported};
-ghost use Rattle.steps.specs.Fit.{Lends, Takes, Does};
+ghost use Rattle.steps.specs.Fit.{Does};
 ghost use Rattle.model.specs.Refusals.{number};
 ghost use Rattle.calls.specs.Answers.{outcome, handed_says, answer_says};
 ghost use Rattle.calls.specs.Fit.{Starts, Begins, Ends};
@@ -88,34 +87,15 @@ pub fn open(
         × (area.new ≡ open_leaves n measure limit footprint.now area.old) }
 {
     let place = Place::NOWHERE;
-    verdicts::open_verdict(n, measure, limit, footprint, area)
-        .map_err(|cause| Refused { place, cause })?;
+    verdicts::open_verdict(n, measure, limit, footprint, area).map_err(|cause| Refused {
+        place,
+        cause,
+    })?;
     open_area(n, measure, limit, footprint, area);
     Ok(Place::open(measure, n, limit))
 }
 
 // ---- pick
-
-// One step, with room for the copy of a table of up to W words.
-fn step_in<const W: usize>(p: Place, area: &mut [u32], words: &[u32]) -> Place
-    requires { Takes p (length area.old) (length words.now) × (size_of p.settings.measure p.settings.boards ≤ W) × (W ≤ 2048) }
-    ensures { Does (stepped (kit_of p.settings) words.now) p area.old result area.new }
-{
-    let k = measures::size(p.settings.measure, p.settings.boards);
-    let mut right = lists::zeroed::<W>();
-    steps::step(p, area, words, &mut right[..k], Mode::Kept)
-}
-
-// A table of times has 2,048 words at most, one of links 32.
-fn take_pick(p: Place, area: &mut [u32], words: &[u32]) -> Place
-    requires { Takes p (length area.old) (length words.now) }
-    ensures { Does (stepped (kit_of p.settings) words.now) p area.old result area.new }
-{
-    if p.settings.measure == 4 {
-        return step_in::<2048>(p, area, words);
-    }
-    step_in::<32>(p, area, words)
-}
 
 // Takes a pick: one step of the walk.
 #[tactic(auto, using(model::proofs::Refusals::number_some), unfolding(crate::specs::Calls::pick_state))]
@@ -124,7 +104,7 @@ pub fn pick(p: Place, area: &mut [u32], words: &[u32]) -> Result<Place, Refused>
         × (area.new ≡ pick_leaves p area.old words.now) }
 {
     verdicts::pick_verdict(p, area, words).map_err(|cause| Refused { place: p, cause })?;
-    Ok(take_pick(p, area, words))
+    Ok(steps::step(p, area, words, Mode::Kept))
 }
 
 // ---- length
@@ -203,8 +183,8 @@ pub fn whole_start(n: usize, measure: usize, words: &[u32], m: usize, area: &mut
 
 // All picks, one after the other, by the unchecked step: a count that starts at m - 1 would be refused as 16. The area is not kept, and once measure 1
 // has ended the picks that are left only count.
-fn whole_steps(p: Place, area: &mut [u32], words: &[u32], m: usize, right: &mut [u32]) -> Place
-    requires { Starts p m words.now area.old × (1 ≤ p.settings.boards) × Lends p.settings (length right.old) }
+fn whole_steps(p: Place, area: &mut [u32], words: &[u32], m: usize) -> Place
+    requires { Starts p m words.now area.old × (1 ≤ p.settings.boards) }
     ensures { Does (bare_steps (kit_of p.settings) p.settings.boards words.now m) p area.old result area.new
         × Ends p m area.old result area.new }
 {
@@ -214,31 +194,9 @@ fn whole_steps(p: Place, area: &mut [u32], words: &[u32], m: usize, right: &mut 
         if steps::is_finished(q) {
             return q.picks_taken(m - q.window.taken.0);
         }
-        q = steps::step(q, area, pick, right, Mode::Unkept);
+        q = steps::step(q, area, pick, Mode::Unkept);
     }
     q
-}
-
-// The same with room for the copy of a table of up to W words, made once for all picks.
-fn whole_in<const W: usize>(p: Place, area: &mut [u32], words: &[u32], m: usize) -> Place
-    requires { Starts p m words.now area.old × (1 ≤ p.settings.boards) × (size_of p.settings.measure p.settings.boards ≤ W) × (W ≤ 2048) }
-    ensures { Does (bare_steps (kit_of p.settings) p.settings.boards words.now m) p area.old result area.new
-        × Ends p m area.old result area.new }
-{
-    let k = measures::size(p.settings.measure, p.settings.boards);
-    let mut right = lists::zeroed::<W>();
-    whole_steps(p, area, words, m, &mut right[..k])
-}
-
-fn take_picks(p: Place, area: &mut [u32], words: &[u32], m: usize) -> Place
-    requires { Starts p m words.now area.old × (1 ≤ p.settings.boards) }
-    ensures { Does (bare_steps (kit_of p.settings) p.settings.boards words.now m) p area.old result area.new
-        × Ends p m area.old result area.new }
-{
-    if p.settings.measure == 4 {
-        return whole_in::<2048>(p, area, words, m);
-    }
-    whole_in::<32>(p, area, words, m)
 }
 
 // A whole run that nothing refuses. It never reads what the area held, and the needed words end zero.
@@ -248,7 +206,7 @@ fn whole_run(n: usize, measure: usize, words: &[u32], m: usize, area: &mut [u32]
         × (area.new ≡ zeroed (needed measure n m) area.old) }
 {
     let p = whole_start(n, measure, words, m, area);
-    let q = take_picks(p, area, words, m);
+    let q = whole_steps(p, area, words, m);
     zero_needed(n, measure, m, area);
     report(q)
 }

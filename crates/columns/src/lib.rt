@@ -5,7 +5,7 @@ ghost use Rattle.std.specs.Prelude.{◌++◌, ◌∷◌, [], ◌+◌, ◌≤◌,
 ghost use Rattle.columns.specs.Text.{decimal_of, cell_text, line5, Put};
 
 // What a column holds: a number, a dash where there is none, or the word `file`.
-#[derive(Clone, Copy)]
+#[derive(Clone, Copy, PartialEq, Eq)]
 pub enum Cell {
     Number(usize),
     Dash,
@@ -21,28 +21,23 @@ fn put_byte(buf: &mut [u8], at: usize, b: u8) -> usize
     at + 1
 }
 
-// Writes the digits of x, and answers the place behind them.
-fn put_decimal(buf: &mut [u8], at: usize, x: usize) -> usize
-    requires { at + length (decimal_of x) ≤ length buf.old }
-    ensures { Put buf.old at (decimal_of x) result buf.new }
-{
-    if x < 10 {
-        return put_byte(buf, at, 48 + x as u8);
-    }
-    let next = put_decimal(buf, at, x / 10);
-    put_byte(buf, next, 48 + (x % 10) as u8)
-}
-
 // Writes a text, and answers the place behind it.
 pub fn put_text(buf: &mut [u8], at: usize, text: &[u8]) -> usize
     requires { at + length text.now ≤ length buf.old }
     ensures { Put buf.old at text.now result buf.new }
 {
-    let n = text.len();
-    for i in 0..n {
-        buf[at + i] = text[i];
-    }
-    at + n
+    let end = at + text.len();
+    buf[at..end].copy_from_slice(text);
+    end
+}
+
+// Writes the digits of x, and answers the place behind them.
+fn put_decimal(buf: &mut [u8], at: usize, x: usize) -> usize
+    requires { at + length (decimal_of x) ≤ length buf.old }
+    ensures { Put buf.old at (decimal_of x) result buf.new }
+{
+    let mut digits = itoa::Buffer::new();
+    put_text(buf, at, digits.format(x).as_bytes())
 }
 
 // Writes a cell and the byte behind it: at most 20 digits, and one.

@@ -197,8 +197,8 @@ pub fn saving_words(s: Result<usize, Refusal>) -> SavedWords
             refusal: 0,
             length: narrow(k),
         },
-        Err(c) => SavedWords {
-            refusal: u32::from(c),
+        Err(cause) => SavedWords {
+            refusal: u32::from(cause),
             length: 0,
         },
     }

@@ -3,11 +3,9 @@
 #![tactic(auto)]
 
 ghost use Rattle.std.specs.Prelude.{◌≡◌, ◌≢◌, ◌≤◌, length};
-ghost use Rattle.measures.specs.Kit.{size_of};
 ghost use Rattle.area.specs.Parts.{zeroed};
 ghost use Rattle.verdicts.specs.Verdicts.{needed, verdict_says};
 ghost use Rattle.verdicts.specs.Fit.{Runs};
-ghost use Rattle.steps.specs.Fit.{Lends};
 ghost use Rattle.calls.specs.Fit.{Starts};
 ghost use Rattle.decision.specs.Fit.{Leaves};
 ghost use Rattle.decision.specs.Decisions.{decided_as, decision_says, decision_verdict, decided_at, decision_report, decide_says, decide_leaves};
@@ -41,15 +39,8 @@ fn decision_verdict(
 // ---- the walk held at k
 
 // The picks up to the first failure, or all. The area is not kept.
-fn hold_picks(
-    p: Place,
-    area: &mut [u32],
-    words: &[u32],
-    m: usize,
-    k: usize,
-    right: &mut [u32],
-) -> Place
-    requires { Starts p m words.now area.old × (1 ≤ k) × (1 ≤ p.settings.boards) × Lends p.settings (length right.old) }
+fn hold_picks(p: Place, area: &mut [u32], words: &[u32], m: usize, k: usize) -> Place
+    requires { Starts p m words.now area.old × (1 ≤ k) × (1 ≤ p.settings.boards) }
     ensures { Leaves p k m words.now area.old result area.new }
 {
     let n = p.settings.boards;
@@ -58,30 +49,9 @@ fn hold_picks(
         if q.marks.failed {
             return q;
         }
-        q = steps::step(q, area, pick, right, Mode::Held(k));
+        q = steps::step(q, area, pick, Mode::Held(k));
     }
     q
-}
-
-// The same with room for the copy of a table of up to W words, made once for all picks.
-fn hold_in<const W: usize>(p: Place, area: &mut [u32], words: &[u32], m: usize, k: usize) -> Place
-    requires { Starts p m words.now area.old × (1 ≤ k) × (1 ≤ p.settings.boards) × (size_of p.settings.measure p.settings.boards ≤ W) × (W ≤ 2048) }
-    ensures { Leaves p k m words.now area.old result area.new }
-{
-    let e = measures::size(p.settings.measure, p.settings.boards);
-    let mut right = lists::zeroed::<W>();
-    hold_picks(p, area, words, m, k, &mut right[..e])
-}
-
-// A table of times has 2,048 words at most, one of links 32.
-fn hold_window(p: Place, area: &mut [u32], words: &[u32], m: usize, k: usize) -> Place
-    requires { Starts p m words.now area.old × (1 ≤ k) × (1 ≤ p.settings.boards) }
-    ensures { Leaves p k m words.now area.old result area.new }
-{
-    if p.settings.measure == 4 {
-        return hold_in::<2048>(p, area, words, m, k);
-    }
-    hold_in::<32>(p, area, words, m, k)
 }
 
 // ---- the call
@@ -110,7 +80,7 @@ fn decide_run(
         × (area.new ≡ zeroed (needed measure n m) area.old) }
 {
     let p = calls::whole_start(n, measure, words, m, area);
-    let q = hold_window(p, area, words, m, k);
+    let q = hold_picks(p, area, words, m, k);
     calls::zero_needed(n, measure, m, area);
     answer_at(q)
 }

@@ -1,5 +1,4 @@
-// What the walk needs of each measure: the words of a table, a pick's own table, the composition where it goes word by word, the test of a table. The
-// compositions of measures 3 and 4 are those of `joins` and `folds`.
+// What the walk needs of each measure: the words of a table, a pick's own table, the composition, the test of a table.
 #![tactic(auto)]
 
 ghost use Rattle.std.specs.Prelude.{◌≡◌, ◌≢◌, ◌^◌, ◌≤◌, ◌<◌, length};
@@ -10,6 +9,7 @@ ghost use Rattle.measures.specs.Kit.{hops01, turn01, size_of, own_of, join_of, p
 use model::Pick;
 
 // The words of a table.
+#[tactic(auto, unfolding(crate::specs::Kit::size_of))]
 pub fn size(measure: usize, n: usize) -> usize
     requires { n ≤ 32 }
     ensures { result ≡ size_of measure n }
@@ -18,15 +18,29 @@ pub fn size(measure: usize, n: usize) -> usize
 }
 
 // Composes right, the later table, onto t, the earlier: for the measures whose tables compose word by word, which are 1 and 2.
+#[tactic(auto, unfolding(crate::specs::Kit::join_of))]
 pub fn compose_words(t: &mut [u32], right: &[u32], measure: usize, n: usize)
     requires { (measure ≢ 4) × (measure ≢ 3) × (n ≡ length t.old) × (n ≤ length right.now) }
     ensures { t.new ≡ join_of measure n t.old right.now }
 {
     if measure == 2 {
         links::unite_into(t, right, n);
-        return;
+    } else {
+        links::intersect_into(t, right, n);
     }
-    links::intersect_into(t, right, n);
+}
+
+// Composes right, the later table, onto t, the earlier, under any measure.
+#[tactic(auto, unfolding(crate::specs::Kit::size_of, crate::specs::Kit::join_of))]
+pub fn compose(t: &mut [u32], right: &[u32], measure: usize, n: usize)
+    requires { (n ≤ 32) × (size_of measure n ≡ length t.old) × (size_of measure n ≡ length right.now) }
+    ensures { t.new ≡ join_of measure n t.old right.now }
+{
+    match measure {
+        4 => folds::compose_over(t, right, n),
+        3 => joins::join_over(t, right, n),
+        _ => compose_words(t, right, measure, n),
+    }
 }
 
 // The own table of measure 4: the pairs joined within the pick are worked out in a local table of links.
@@ -35,23 +49,20 @@ fn own_times(out: &mut [u32], words: &[u32], n: usize, pick: Pick)
     ensures { out.new ≡ own_times n pick.0 (within n hops01 words.now) }
 {
     let joined = joins::closed_words(words, n);
-    times::own(out, &joined[0..n], n, pick);
+    times::own(out, &joined[..n], n, pick);
 }
 
 // Writes over out the own table of a pick.
+#[tactic(auto, unfolding(crate::specs::Kit::size_of, crate::specs::Kit::own_of))]
 pub fn own(out: &mut [u32], words: &[u32], measure: usize, n: usize, pick: Pick)
     requires { (n ≤ 32) × ((pick.0 < 2 ^ 32) × ((size_of measure n ≡ length out.old) × (n ≡ length words.now))) }
     ensures { out.new ≡ own_of hops01 measure n pick.0 words.now }
 {
-    if measure == 4 {
-        own_times(out, words, n, pick);
-        return;
+    match measure {
+        4 => own_times(out, words, n, pick),
+        3 => joins::close_over(out, words, n),
+        _ => out.copy_from_slice(words),
     }
-    if measure == 3 {
-        joins::close_over(out, words, n);
-        return;
-    }
-    lists::copy_over(out, words, n);
 }
 
 // The picks that a round trip takes to turn round: the one place in code that says how many.
@@ -62,18 +73,15 @@ pub fn turn_round() -> u32
 }
 
 // Whether a table passes; the footprint is that of measure 2, the turn-round that of measure 4.
+#[tactic(auto, unfolding(crate::specs::Kit::size_of, crate::specs::Kit::pass_of))]
 pub fn passes(footprint: &[u32], t: &[u32], measure: usize, n: usize, turn: u32) -> bool
     requires { (n ≤ 32) × ((n ≤ length footprint.now) × (size_of measure n ≡ length t.now)) }
     ensures { result ≡ pass_of turn measure n footprint.now t.now }
 {
-    if measure == 4 {
-        return times::in_time(t, n, turn);
+    match measure {
+        4 => times::in_time(t, n, turn),
+        3 => searches::is_full(t, n),
+        2 => links::is_same(footprint, t, n),
+        _ => searches::is_connected(t, n),
     }
-    if measure == 3 {
-        return searches::is_full(t, n);
-    }
-    if measure == 2 {
-        return links::is_same(footprint, t, n);
-    }
-    searches::is_connected(t, n)
 }

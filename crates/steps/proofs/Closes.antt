@@ -19,9 +19,9 @@ use Rattle.steps.specs.Bare.{spared, bare_tried, bare_tested, bare_step}
 use Rattle.steps.specs.declared.Mode.{Mode}
 use Rattle.steps.specs.declared.Mode.TheVariants.{Kept, Unkept, Held}
 use Rattle.steps.specs.Modes.{held_rise, tested_from, held_step, kept_by, held_by, over_by, rise_by, untested_by, step_by, Enters}
-use Rattle.steps.specs.Fit.{Lends, Fit, rise, Entry, Takes, Does}
+use Rattle.steps.specs.Fit.{Fit, rise, Entry, Takes, Does}
 use Rattle.steps.proofs.Fit.{limit-of, entry_by, one_le, does_at, does_kit}
-use Rattle.steps.proofs.Grown.{enter_tries, entered_grown, tried_grown, raised_grown, grown_lends}
+use Rattle.steps.proofs.Grown.{enter_tries, entered_grown, tried_grown, raised_grown}
 use Rattle.steps.proofs.Rises.{climbed_along}
 
 -- ---- by the measure
@@ -52,13 +52,10 @@ rise_one Kept p e = one_le (cond (eqb p.settings.measure 1) p.marks.failed p.mar
 rise_one Unkept p e = one_le (cond (eqb p.settings.measure 1) p.marks.failed p.marks.passed) e
 rise_one (Held k) p e = one_le (leb k p.window.taken.0) e
 
--- the pick that is entered may be tested, and what is lent for a copy still has the words of a table
-pub enters_tries : (p : Place) (a w : List ℕ) (mode : Mode) (k : ℕ) {links v n : ℕ} {q : Place} {b : List ℕ} → Enters mode p (length a) links
-    → k ≡ rise_by mode p → Does (entered (kit_of p.settings) k w) p a q b → length b ≡ length a → v ≡ n → Lends p.settings n
-    → Fit q (length b) (3 * per_ladder + 1) × Lends q.settings v
-enters_tries p a w mode k f e d l g h =
-    let K = kit_of p.settings in
-    (enter_tries p a k w (entry_by e f.entry) d l, grown_lends (entered K k w) p a d (entered_grown K k w (state p a)) g h)
+-- the pick that is entered may be tested
+pub enters_tries : (p : Place) (a w : List ℕ) (mode : Mode) (k : ℕ) {links : ℕ} {q : Place} {b : List ℕ} → Enters mode p (length a) links
+    → k ≡ rise_by mode p → Does (entered (kit_of p.settings) k w) p a q b → length b ≡ length a → Fit q (length b) (3 * per_ladder + 1)
+enters_tries p a w mode k f e d l = enter_tries p a k w (entry_by e f.entry) d l
 
 -- where the window is not held it moves as in the walk
 pub rise_walked : (mode : Mode) (p : Place) {k : ℕ} → held_by mode ≡ false → k ≡ rise_by mode p → k ≡ rise p

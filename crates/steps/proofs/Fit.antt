@@ -15,7 +15,7 @@ use Rattle.place.specs.declared.Settings.{Settings}
 use Rattle.place.specs.declared.Place.{Place}
 use Rattle.place.specs.Places.{picks_taken, start_moved, charged, per_pick}
 use Rattle.steps.specs.Walk.{State, state, kit_of, ladder}
-use Rattle.steps.specs.Fit.{Able, In, Lends, Owns, Fit, Entry, Does}
+use Rattle.steps.specs.Fit.{Able, In, Owns, Fit, Entry, Does}
 
 -- ---- parts
 
@@ -40,12 +40,6 @@ measure_of e = ap (λ (x : Settings). x.measure) e
 
 pub limit-of : {s t : Settings} → t ≡ s → t.limit ≡ s.limit
 limit-of e = ap (λ (x : Settings). x.limit) e
-
--- ---- scratch
-
--- what is lent keeps its length, and a place its measure and its boards
-pub lends_kept : {s t : Settings} {v k : ℕ} → t ≡ s → v ≡ k → Lends s k → Lends t v
-lends_kept e g h = rw (e, g) h
 
 -- ---- places
 
@@ -104,14 +98,6 @@ entry_by {p} {k} {i} {words} e h = subst (λ (x : ℕ). Entry p x words) (sym e)
 
 pub one_le : {k : ℕ} (x : Bool) → k ≡ val x → k ≤ 1
 one_le x e = omega (arith, val_le x)
-
-pub entry_lends : (p : Place) (k : ℕ) {q : Place} {n : ℕ} → q ≡ start_moved (picks_taken p 1) k → Lends p.settings n → Lends q.settings n
-unfolding start_moved picks_taken
-entry_lends p k {q} {n} e h = subst (λ (x : Place). Lends x.settings n) (sym e) h
-
-pub moved_lends : (p : Place) {q : Place} {n : ℕ} → q ≡ start_moved p 1 → Lends p.settings n → Lends q.settings n
-unfolding start_moved
-moved_lends p {q} {n} e h = subst (λ (x : Place). Lends x.settings n) (sym e) h
 
 -- the part of the new pick has the own table of its words
 pub entry_owns : {p q : Place} {k : ℕ} {w b : List ℕ} (a : List ℕ) → q ≡ start_moved (picks_taken p 1) k

@@ -2,7 +2,7 @@
 use Prim.Native.Nat.{ℕ, ◌+◌, ◌-◌, ◌*◌, ◌≤◌, ◌<◌, max}
 use native.Mathlib.Nat.{le_refl}
 use native.Mathlib.Omega.{arith}
-use mathlib.Core.Path.{◌≡◌, refl, ap, ◌∙◌}
+use mathlib.Core.Path.{◌≡◌, refl, ◌∙◌}
 use mathlib.Core.Bool.{Bool, true, false, ◌&&◌}
 use mathlib.Core.List.{List}
 use lib.ListN.{length}
@@ -12,9 +12,9 @@ use Rattle.place.specs.declared.Place.{Place}
 use Rattle.place.specs.Places.{picks_taken, start_moved, boundary_moved, charged, tested}
 use Rattle.steps.specs.Walk.{State, state, kit_of, more, far, on_left, on_right, written, rebuilt, joined, extended_by, extended, entered, windowed, judged}
 use Rattle.steps.specs.Walk.{tried, raised_by, raised, again}
-use Rattle.steps.specs.Fit.{Lends, Fit, Entry, Does}
+use Rattle.steps.specs.Fit.{Fit, Entry, Does}
 use Rattle.place.specs.Places.{per_ladder}
-use Rattle.steps.proofs.Fit.{able_kept, limit-of, lends_kept, fit_at}
+use Rattle.steps.proofs.Fit.{able_kept, limit-of, fit_at}
 use Rattle.model.specs.Journey.{val}
 use Rattle.model.proofs.Bits.{val_le}
 
@@ -330,9 +330,3 @@ raise_tries p a f h d l =
     let fc = f.able.cap in
     let ft = f.top in
     grown_fit d.0 l (raised_grown (kit_of p.settings) (state p a)) (omega arith) (omega arith) (omega arith) f
-
--- ---- what is lent keeps its length, and a place its settings
-
-pub grown_lends : (f : State → State) (p : Place) (a : List ℕ) {q : Place} {b : List ℕ} {m k c t v n : ℕ} → Does f p a q b
-    → Grown p (f (state p a)).place m k c t → v ≡ n → Lends p.settings n → Lends q.settings v
-grown_lends f p a d g e l = lends_kept (ap (λ (x : Place). x.settings) d.0 ∙ g.settings) e l

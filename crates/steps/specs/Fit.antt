@@ -18,10 +18,6 @@ pub record In (s : Settings) (i : ℕ) : Type 0 where
   pub low : 1 ≤ i
   pub high : i ≤ s.limit + 4
 
--- k words, lent for the copy that a composition reads, are those of a table
-abbrev pub Lends : Settings → ℕ → Type 0
-Lends s k = (kit_of s).size ≡ k
-
 -- the part of the last pick has the own table of its words w
 pub record Owns (p : Place) (a w : List ℕ) : Type 0 where
   pub shape : p.settings.boards ≡ length w

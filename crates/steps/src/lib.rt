@@ -1,7 +1,5 @@
 // The steps of the walk, on a place and the words of its area. m is the picks taken, s the start of the window, b the boundary: the left ladder
 // stands in parts s to b, the right ladder, over picks b + 1 to m, in part limit + 1, the window in part limit + 2, the footprint in limit + 3.
-// `right` has the words of a table and is lent from above: compositions of measures 3 and 4 copy the later table into it. What it holds is free before and
-// after.
 #![tactic(auto)]
 
 ghost use Rattle.std.specs.Prelude.{◌≡◌, true, not, ◌&&◌, ◌+◌, ◌-◌, ◌*◌, ◌≤◌, ◌<◌, length};
@@ -12,18 +10,18 @@ ghost use Rattle.steps.specs.Walk.{state, kit_of, ladder, rebuilt, joined, exten
 ghost use Rattle.steps.specs.Alike.{finished};
 ghost use Rattle.steps.specs.Bare.{bare_tried, spared};
 ghost use Rattle.steps.specs.Modes.{kept_by, held_by, over_by, rise_by, untested_by, step_by, Enters};
-ghost use Rattle.steps.specs.Fit.{Able, In, Lends, Owns, Fit, first_part, rise, Entry, Does};
+ghost use Rattle.steps.specs.Fit.{Able, In, Owns, Fit, first_part, rise, Entry, Does};
 
 use model::Pick;
 use place::Place;
 
 // ---- parts, with the measure and the boards of the place
 
-fn compose_at(p: Place, area: &mut [u32], right: &mut [u32], d: usize, r: usize)
-    requires { Able p.settings (length area.old) × Lends p.settings (length right.old) × In p.settings d × In p.settings r }
+fn compose_at(p: Place, area: &mut [u32], d: usize, r: usize)
+    requires { Able p.settings (length area.old) × In p.settings d × In p.settings r }
     ensures { area.new ≡ compose_at (kit_of p.settings) area.old d d r }
 {
-    area::compose_onto(area, right, p.settings.measure, p.settings.boards, d, r);
+    area::compose_onto(area, p.settings.measure, p.settings.boards, d, r);
 }
 
 fn copy_at(p: Place, area: &mut [u32], d: usize, l: usize)
@@ -52,34 +50,32 @@ fn clear_spare(p: Place, area: &mut [u32])
 // ---- the ladders
 
 // From part m - 1 down to part s, each part becomes its composition with the part after it, so that part i holds the window i to m.
-fn build_left(p: Place, area: &mut [u32], right: &mut [u32], s: usize, m: usize)
-    requires { Able p.settings (length area.old) × Lends p.settings (length right.old) × (1 ≤ s) × (s ≤ m) × (m ≤ p.settings.limit) }
+fn build_left(p: Place, area: &mut [u32], s: usize, m: usize)
+    requires { Able p.settings (length area.old) × (1 ≤ s) × (s ≤ m) × (m ≤ p.settings.limit) }
     ensures { area.new ≡ ladder (kit_of p.settings) area.old m (m - s) }
 {
-    let mut i = m;
-    while s < i {
-        i -= 1;
-        compose_at(p, area, right, i, i + 1);
+    for i in (s..m).rev() {
+        compose_at(p, area, i, i + 1);
     }
 }
 
 // b becomes m: the left ladder is built over s to m, one composition for each part but the last, and the right ladder is empty.
-fn rebuild(p: Place, area: &mut [u32], right: &mut [u32]) -> Place
-    requires { Fit p (length area.old) 0 × Lends p.settings (length right.old) }
+fn rebuild(p: Place, area: &mut [u32]) -> Place
+    requires { Fit p (length area.old) 0 }
     ensures { Does (rebuilt (kit_of p.settings)) p area.old result area.new }
 {
     let m = p.window.taken;
     let s = p.window.start;
     let limit = p.settings.limit;
-    build_left(p, area, right, s.0, m.0);
+    build_left(p, area, s.0, m.0);
     zero_at(p, area, limit + 1);
     let q = p.boundary_moved();
     q.charged(m.0 - s.0)
 }
 
 // Pick m joins the right ladder: a composition, unless that was empty and m is all it holds.
-fn join(p: Place, area: &mut [u32], words: &[u32], right: &mut [u32]) -> Place
-    requires { Fit p (length area.old) 0 × Lends p.settings (length right.old) × Owns p area.old words.now }
+fn join(p: Place, area: &mut [u32], words: &[u32]) -> Place
+    requires { Fit p (length area.old) 0 × Owns p area.old words.now }
     ensures { Does (joined (kit_of p.settings)) p area.old result area.new }
 {
     let m = p.window.taken;
@@ -89,7 +85,6 @@ fn join(p: Place, area: &mut [u32], words: &[u32], right: &mut [u32]) -> Place
         area::compose_own(
             area,
             words,
-            right,
             p.settings.measure,
             p.settings.boards,
             limit + 1,
@@ -102,21 +97,21 @@ fn join(p: Place, area: &mut [u32], words: &[u32], right: &mut [u32]) -> Place
 }
 
 // The ladders take in pick m. A start beyond b + 1 has left the left ladder behind, and part of the right one: only then is a new one built.
-fn extend(p: Place, area: &mut [u32], words: &[u32], right: &mut [u32]) -> Place
-    requires { Fit p (length area.old) 0 × Lends p.settings (length right.old) × Owns p area.old words.now }
+fn extend(p: Place, area: &mut [u32], words: &[u32]) -> Place
+    requires { Fit p (length area.old) 0 × Owns p area.old words.now }
     ensures { Does (extended (kit_of p.settings)) p area.old result area.new }
 {
     let s = p.window.start;
     let b = p.window.boundary;
     if b.0 + 1 < s.0 {
-        return rebuild(p, area, right);
+        return rebuild(p, area);
     }
-    join(p, area, words, right)
+    join(p, area, words)
 }
 
 // A new pick: its own table goes to its part, the start moves by k, and the ladders take it in.
-fn enter(p: Place, area: &mut [u32], words: &[u32], right: &mut [u32], k: usize) -> Place
-    requires { Entry p k (length area.old) × Lends p.settings (length right.old) × (k ≤ 1) × (p.settings.boards ≡ length words.now) }
+fn enter(p: Place, area: &mut [u32], words: &[u32], k: usize) -> Place
+    requires { Entry p k (length area.old) × (k ≤ 1) × (p.settings.boards ≡ length words.now) }
     ensures { Does (entered (kit_of p.settings) k words.now) p area.old result area.new }
 {
     let m = p.window.taken;
@@ -124,7 +119,7 @@ fn enter(p: Place, area: &mut [u32], words: &[u32], right: &mut [u32], k: usize)
     area::own_part(area, words, p.settings.measure, p.settings.boards, next);
     let q = p.picks_taken(1);
     let r = q.start_moved(k);
-    extend(r, area, words, right)
+    extend(r, area, words)
 }
 
 // ---- a test
@@ -134,15 +129,17 @@ fn first_part(p: Place) -> usize
     requires { p.settings.limit ≤ 4096 }
     ensures { result ≡ first_part p }
 {
-    let s = p.window.start;
-    let b = p.window.boundary;
-    let limit = p.settings.limit;
-    if b.0 < s.0 { limit + 1 } else { s.0 }
+    let s = p.window.start.0;
+    if p.window.boundary.0 < s {
+        p.settings.limit + 1
+    } else {
+        s
+    }
 }
 
 // The window s to m goes to part limit + 2: a copy from the ladder that it begins on, and a composition where it lies on both.
-fn window(p: Place, area: &mut [u32], right: &mut [u32]) -> Place
-    requires { Fit p (length area.old) 0 × Lends p.settings (length right.old) }
+fn window(p: Place, area: &mut [u32]) -> Place
+    requires { Fit p (length area.old) 0 }
     ensures { Does (windowed (kit_of p.settings)) p area.old result area.new }
 {
     let m = p.window.taken;
@@ -157,7 +154,7 @@ fn window(p: Place, area: &mut [u32], right: &mut [u32]) -> Place
     if m.0 <= b.0 {
         return p;
     }
-    compose_at(p, area, right, limit + 2, limit + 1);
+    compose_at(p, area, limit + 2, limit + 1);
     p.charged(1)
 }
 
@@ -180,18 +177,18 @@ fn judge(p: Place, area: &[u32]) -> Place
 }
 
 // One test of the window s to m.
-fn try_window(p: Place, area: &mut [u32], right: &mut [u32]) -> Place
-    requires { Fit p (length area.old) 1 × Lends p.settings (length right.old) }
+fn try_window(p: Place, area: &mut [u32]) -> Place
+    requires { Fit p (length area.old) 1 }
     ensures { Does (tried (kit_of p.settings)) p area.old result area.new }
 {
-    let q = window(p, area, right);
+    let q = window(p, area);
     judge(q, area)
 }
 
 // The same where nobody looks at the area afterwards: a window that lies on one ladder is judged where it is, one of both ladders is composed only under
 // measure 4, and judged without being written under the others.
-fn judge_ladders(p: Place, area: &mut [u32], right: &mut [u32]) -> Place
-    requires { Fit p (length area.old) 1 × Lends p.settings (length right.old) × (spared p.settings ≡ true) }
+fn judge_ladders(p: Place, area: &mut [u32]) -> Place
+    requires { Fit p (length area.old) 1 × (spared p.settings ≡ true) }
     ensures { Does (bare_tried (kit_of p.settings)) p area.old result area.new }
 {
     let m = p.window.taken;
@@ -224,7 +221,7 @@ fn judge_ladders(p: Place, area: &mut [u32], right: &mut [u32]) -> Place
         return p.tested(passed);
     }
     if p.settings.measure == 4 {
-        return try_window(p, area, right);
+        return try_window(p, area);
     }
     let passed = area::joined_passes(
         area,
@@ -241,43 +238,39 @@ fn judge_ladders(p: Place, area: &mut [u32], right: &mut [u32]) -> Place
 // ---- measure 1: the start rises while tests fail
 
 // After a failure the start rises by one; where it then exceeds b + 1, the left ladder is built.
-fn raise(p: Place, area: &mut [u32], right: &mut [u32]) -> Place
-    requires { Fit p (length area.old) 0 × Lends p.settings (length right.old) × (p.window.start.0 < p.window.taken.0) }
+fn raise(p: Place, area: &mut [u32]) -> Place
+    requires { Fit p (length area.old) 0 × (p.window.start.0 < p.window.taken.0) }
     ensures { Does (raised (kit_of p.settings)) p area.old result area.new }
 {
     let s = p.window.start;
     let b = p.window.boundary;
     let q = p.start_moved(1);
     if b.0 + 1 < s.0 + 1 {
-        return rebuild(q, area, right);
+        return rebuild(q, area);
     }
     q
 }
 
 // A rise, and the test repeated.
-fn again(p: Place, area: &mut [u32], right: &mut [u32]) -> Place
-    requires { Fit p (length area.old) per_ladder × Lends p.settings (length right.old) × (p.window.start.0 < p.window.taken.0) }
+fn again(p: Place, area: &mut [u32]) -> Place
+    requires { Fit p (length area.old) per_ladder × (p.window.start.0 < p.window.taken.0) }
     ensures { Does (again (kit_of p.settings)) p area.old result area.new }
 {
-    let q = raise(p, area, right);
-    try_window(q, area, right)
+    let q = raise(p, area);
+    try_window(q, area)
 }
 
-// Until a test passes or the window s = m has failed: k = m - s rises are left.
-fn climb(p: Place, area: &mut [u32], right: &mut [u32]) -> Place
-    requires { Fit p (length area.old) (3 * per_ladder) × Lends p.settings (length right.old) }
+// Until a test passes or the window s = m has failed.
+fn climb(p: Place, area: &mut [u32]) -> Place
+    requires { Fit p (length area.old) (3 * per_ladder) }
     ensures { Does (climbed (kit_of p.settings)) p area.old result area.new }
 {
-    let m = p.window.taken;
-    let s = p.window.start;
-    let mut k = m.0 - s.0;
     let mut q = p;
-    while 0 < k {
+    for _ in p.window.start.0..p.window.taken.0 {
         if q.marks.passed {
             return q;
         }
-        q = again(q, area, right);
-        k -= 1;
+        q = again(q, area);
     }
     q
 }
@@ -286,21 +279,14 @@ fn climb(p: Place, area: &mut [u32], right: &mut [u32]) -> Place
 pub fn is_finished(p: Place) -> bool
     ensures { result ≡ finished p }
 {
-    if p.settings.measure != 1 {
-        return false;
-    }
-    let m = p.window.taken;
-    if 0 < m.0 {
-        return !p.marks.passed;
-    }
-    false
+    p.settings.measure == 1 && 0 < p.window.taken.0 && !p.marks.passed
 }
 
 // ---- how a step is made
 
 // `Kept`: every part then holds what 01 says, as after a call for a pick. `Unkept`: nobody looks at the area afterwards, as in a whole run. `Held(k)`: nor
 // here, and the window is held at k picks, as in a decision. One function makes all of them, so that what it calls is called from one place.
-#[derive(Clone, Copy)]
+#[derive(Clone, Copy, PartialEq, Eq)]
 pub enum Mode {
     Kept,
     Unkept,
@@ -310,58 +296,41 @@ pub enum Mode {
 fn is_kept(mode: Mode) -> bool
     ensures { result ≡ kept_by mode }
 {
-    match mode {
-        Mode::Kept => true,
-        Mode::Unkept => false,
-        Mode::Held(_) => false,
-    }
+    matches!(mode, Mode::Kept)
 }
 
 fn is_held(mode: Mode) -> bool
     ensures { result ≡ held_by mode }
 {
-    match mode {
-        Mode::Kept => false,
-        Mode::Unkept => false,
-        Mode::Held(_) => true,
-    }
+    matches!(mode, Mode::Held(_))
 }
 
 // Whether a pick raises m only. Where the window is held none does: before pick k no test has passed, and that is no end.
 fn is_over(p: Place, mode: Mode) -> bool
     ensures { result ≡ over_by mode p }
 {
-    if is_held(mode) {
-        return false;
-    }
-    is_finished(p)
+    !is_held(mode) && is_finished(p)
 }
 
 // What the start moves by at a new pick: one, under measure 1 once a test has failed, under the others after a test that passed.
 fn moved_by(p: Place) -> usize
     ensures { result ≡ rise p }
 {
-    if p.settings.measure == 1 {
-        return one_if(p.marks.failed);
-    }
-    one_if(p.marks.passed)
-}
-
-fn one_if(x: bool) -> usize
-    ensures { result ≡ val x }
-{
-    if x { 1 } else { 0 }
+    let rises = if p.settings.measure == 1 {
+        p.marks.failed
+    } else {
+        p.marks.passed
+    };
+    usize::from(rises)
 }
 
 // The same in any mode: where the window is held at k, one once k picks are taken.
 fn rise_by(p: Place, mode: Mode) -> usize
     ensures { result ≡ rise_by mode p }
 {
-    let m = p.window.taken;
     match mode {
-        Mode::Kept => moved_by(p),
-        Mode::Unkept => moved_by(p),
-        Mode::Held(k) => one_if(k <= m.0),
+        Mode::Kept | Mode::Unkept => moved_by(p),
+        Mode::Held(k) => usize::from(k <= p.window.taken.0),
     }
 }
 
@@ -369,11 +338,9 @@ fn rise_by(p: Place, mode: Mode) -> usize
 fn is_untested(q: Place, mode: Mode) -> bool
     ensures { result ≡ untested_by mode q }
 {
-    let m = q.window.taken;
     match mode {
-        Mode::Kept => false,
-        Mode::Unkept => false,
-        Mode::Held(k) => m.0 < k,
+        Mode::Kept | Mode::Unkept => false,
+        Mode::Held(k) => q.window.taken.0 < k,
     }
 }
 
@@ -381,19 +348,7 @@ fn is_untested(q: Place, mode: Mode) -> bool
 fn is_spared(p: Place, kept: bool) -> bool
     ensures { result ≡ (not kept && spared p.settings) }
 {
-    if kept {
-        return false;
-    }
-    if p.settings.measure == 2 {
-        return true;
-    }
-    if p.settings.measure == 3 {
-        return true;
-    }
-    if p.settings.measure == 4 {
-        return true;
-    }
-    false
+    !kept && matches!(p.settings.measure, 2 | 3 | 4)
 }
 
 // ---- a pick taken
@@ -401,28 +356,28 @@ fn is_spared(p: Place, kept: bool) -> bool
 // A pick is entered, the start moved on, and one test follows; under measure 1 the start then rises while tests fail, and after the end only m does. Where the
 // area is not kept, under measures 2 to 4, neither the window's part nor part limit + 4 is written for its own sake. Where the window is held at k, no test
 // comes before pick k, and from then on the one test is all.
-pub fn step(p: Place, area: &mut [u32], words: &[u32], right: &mut [u32], mode: Mode) -> Place
-    requires { Enters mode p (length area.old) (length words.now) × Lends p.settings (length right.old) }
+pub fn step(p: Place, area: &mut [u32], words: &[u32], mode: Mode) -> Place
+    requires { Enters mode p (length area.old) (length words.now) }
     ensures { Does (step_by mode (kit_of p.settings) words.now) p area.old result area.new }
 {
     if is_over(p, mode) {
         return p.picks_taken(1);
     }
     let by = rise_by(p, mode);
-    let q = enter(p, area, words, right, by);
+    let q = enter(p, area, words, by);
     if is_untested(q, mode) {
         return q;
     }
     let kept = is_kept(mode);
     if is_spared(p, kept) {
-        return judge_ladders(q, area, right);
+        return judge_ladders(q, area);
     }
-    let t = try_window(q, area, right);
+    let t = try_window(q, area);
     if is_held(mode) {
         return t;
     }
     if p.settings.measure == 1 {
-        let r = climb(t, area, right);
+        let r = climb(t, area);
         clear_spare(p, area);
         return r;
     }

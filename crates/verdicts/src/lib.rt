@@ -141,7 +141,13 @@ pub fn pick_verdict(p: Place, area: &[u32], words: &[u32]) -> Result<(), Refusal
 
 // The causes after those of every lent recording: 4, 5.
 #[tactic(auto, unfolding(model::specs::Causes::first_of))]
-fn run_verdict(n: usize, measure: usize, words: &[u32], m: usize, area: &[u32]) -> Result<(), Refusal>
+fn run_verdict(
+    n: usize,
+    measure: usize,
+    words: &[u32],
+    m: usize,
+    area: &[u32],
+) -> Result<(), Refusal>
     requires { (n ≤ 32) × (m ≤ 4096) × (m * n ≤ length words.now) }
     ensures { verdict_says result ≡ first_of (run_causes n measure words.now m area.now) }
 {

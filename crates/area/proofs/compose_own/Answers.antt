@@ -1,26 +1,12 @@
--- `area::compose_own` meets its contract, measure by measure.
+-- `area::compose_own` meets its contract: under measures 1 and 2 a pick's own table is its words.
 -- Assumes nothing.
-use mathlib.Core.Path.{◌∙◌, sym}
-use Rattle.measures.proofs.Words.{size_links}
+use mathlib.Core.Path.{◌∙◌}
+use mathlib.Core.Logic.{◌≢◌}
+use Rattle.std.proofs.Common.{rules}
 use Rattle.area.proofs.Lent.{onto_own}
 use Rattle.area.proofs.compose_own.Goals as goal
 
-pub compose_times-requires : goal.compose_times-requires
-compose_times-requires c =
-    let h = c.requires in
-    let e = c.if-measure-eq4.true in (h.0, rw e at h.1, rw e at h.2, rw e at h.3)
-
-pub returns-then-measure-eq4 : goal.returns-then-measure-eq4
-returns-then-measure-eq4 c = rw c.if-measure-eq4.true c.compose_times.ensures
-
-pub compose_links-requires : goal.compose_links-requires
-compose_links-requires c =
-    let h = c.requires in
-    let e = c.if-measure-eq3.true in (h.0, sym (size_links _ _ c.if-measure-eq4.false) ∙ h.1, rw e at h.2, rw e at h.3)
-
-pub returns-then-measure-eq3 : goal.returns-then-measure-eq3
-returns-then-measure-eq3 c = rw c.if-measure-eq3.true c.compose_links.ensures
-
-pub returns : goal.returns
-returns c =
-    c.compose_with.ensures ∙ onto_own _ _ _ _ _ _ _ c.if-measure-eq4.false c.if-measure-eq3.false c.requires.5
+pub returns-in_default : goal.returns-in_default
+returns-in_default c =
+    let not-times : c.args.measure ≢ 4 = search rules in
+    let not-links : c.args.measure ≢ 3 = search rules in c.compose_with.ensures ∙ onto_own _ _ _ _ _ _ _ not-times not-links c.requires.4

@@ -9,9 +9,9 @@ use Rattle.calls.specs.Calls.{report_says, whole_start, whole_report}
 use Rattle.calls.proofs.Loops.{whole_starts, whole_ends, whole_beyond, list-cost}
 use Rattle.calls.proofs.whole_run.Goals as goal
 
-pub take_picks-q-requires : goal.take_picks-q-requires
+pub whole_steps-q-requires : goal.whole_steps-q-requires
 unfolding whole_start charged fresh
-take_picks-q-requires c =
+whole_steps-q-requires c =
     let b = c.requires.some_boards in
     let e = ap (λ (x : Place). x.settings.boards) c.whole_start-p.ensures.place in (
       whole_starts _ _ _ _ _ _ c.requires (list-cost c.args.measure c.args.m c.requires.cap) c.whole_start-p.ensures.place
@@ -19,19 +19,13 @@ take_picks-q-requires c =
       omega arith,
     )
 
-pub report-requires : goal.report-requires
-report-requires c =
-    let t = c.take_picks-q.ensures.1.all-taken in
-    let k = c.requires.cap in
-    (c.take_picks-q.ensures.1.inside c.requires.some_picks, omega arith)
-
 pub returns : goal.returns
 unfolding whole_report
 returns c =
     let b = c.whole_start-p.ensures in (
       c.report.ensures ∙ ap (λ (x : Place). report_says (reported x) x)
           (whole_ends c.args.n c.args.measure c.args.m c.args.words.now c.args.area.now c.requires b c.whole_start-p.auto.area
-          c.take_picks-q.ensures.0),
+          c.whole_steps-q.ensures.0),
       c.zero_needed.ensures ∙ whole_beyond c.args.n c.args.measure c.args.m c.args.words.now c.args.area.now _ b
-          c.take_picks-q.ensures.1.beyond,
+          c.whole_steps-q.ensures.1.beyond,
     )

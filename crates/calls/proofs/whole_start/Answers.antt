@@ -4,32 +4,16 @@ use mathlib.Core.Path.{refl, ap}
 use native.Mathlib.Omega.{arith}
 use Rattle.lists.proofs.Splice.{written-part}
 use Rattle.calls.proofs.Loops.{start_other, start_footprint}
-use Rattle.verdicts.proofs.Verdicts.{third_part, third_room}
+use Rattle.verdicts.proofs.Verdicts.{third_room}
 use Rattle.place.specs.Places.{fresh}
 use Rattle.place.specs.declared.Place.{Place}
 use Rattle.std.proofs.Common.{rules}
 use Rattle.calls.proofs.whole_start.Goals as goal
 
-pub zero_part-requires : goal.zero_part-requires
-zero_part-requires c =
-    (c.requires.few, third_part c.args.measure c.args.n c.args.m _ c.requires.room)
-
 pub returns-then-measure-ne2 : goal.returns-then-measure-ne2
 returns-then-measure-ne2 c =
     start_other c.args.n c.args.measure c.args.m _ _ c.requires c.if-measure-ne2.true
     c.open-p.ensures c.zero_part.ensures
-
-pub overflow_mul-at : goal.overflow_mul-at
-overflow_mul-at c =
-    omega (arith, third_room c.args.measure c.args.n c.args.m _ c.if-measure-ne2.false c.width-e.ensures c.requires.room)
-
-pub overflow_add-at-2 : goal.overflow_add-at-2
-overflow_add-at-2 c =
-    omega (arith, third_room c.args.measure c.args.n c.args.m _ c.if-measure-ne2.false c.width-e.ensures c.requires.room)
-
-pub offset_bounds-area-at : goal.offset_bounds-area-at
-offset_bounds-area-at c =
-    omega (arith, third_room c.args.measure c.args.n c.args.m _ c.if-measure-ne2.false c.width-e.ensures c.requires.room)
 
 pub slice_bounds-make_footprint-end : goal.slice_bounds-make_footprint-end
 slice_bounds-make_footprint-end c =

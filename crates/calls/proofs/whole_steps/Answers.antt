@@ -3,7 +3,6 @@
 use mathlib.Core.Path.{refl, sym, ap, ◌∙◌}
 use Prim.Native.Nat.{ℕ, ◌+◌, ◌-◌}
 use Rattle.place.specs.Places.{picks_taken}
-use Rattle.steps.proofs.Fit.{lends_kept}
 use Rattle.steps.proofs.Closes.{takes_enters}
 use Rattle.calls.proofs.Loops.{along_finished, bared_start, bared_turn, bared_takes, bared_next, bared_end}
 use Rattle.calls.proofs.whole_steps.Goals as goal
@@ -11,30 +10,30 @@ use Rattle.calls.proofs.whole_steps.Goals as goal
 pub loop-pick-init : goal.loop-pick-init
 loop-pick-init c = rw c.into_iter-pick-iterator.ensures.into_iter_gives (
   c.chunks_exact-pick-items.ensures.size,
-  (refl, (0, rw c.chunks_exact-pick-items.ensures.rest (bared_start c.requires.0))),
+  (0, rw c.chunks_exact-pick-items.ensures.rest (bared_start c.requires.0)),
 )
 
 pub returns-then-is_finished : goal.returns-then-is_finished
 returns-then-is_finished c =
-    let v = c.loop-pick.invariant.1.1.1 in
+    let v = c.loop-pick.invariant.1.1 in
     along_finished v.after v.stepped v.after.low (sym c.is_finished.ensures ∙ c.if-is_finished.true)
     (c.picks_taken.ensures ∙ ap (λ (x : ℕ). picks_taken c.loop-pick.q (c.args.m - x)) v.after.taken)
 
 pub step-q-requires : goal.step-q-requires
 step-q-requires c =
     let i = c.loop-pick.invariant in
-    let v = i.1.1.1 in
+    let v = i.1.1 in
     let s = c.in-Some.ensures.steps in
     let t = bared_turn v c.requires.1 s.1.0 (s.1.1 ∙ i.0) in
-    (takes_enters _ _ refl (bared_takes v t), lends_kept v.after.settings i.1.0 c.requires.2)
+    takes_enters _ _ refl (bared_takes v t)
 
 pub loop-pick-preserved : goal.loop-pick-preserved
 loop-pick-preserved c =
     let i = c.loop-pick.invariant in
-    let v = i.1.1.1 in
+    let v = i.1.1 in
     let s = c.in-Some.ensures.steps in
     let t = bared_turn v c.requires.1 s.1.0 (s.1.1 ∙ i.0) in
-    (s.0 ∙ i.0, (c.step-q.auto.right ∙ i.1.0, (i.1.1.0 + 1, bared_next v t c.step-q.ensures)))
+    (s.0 ∙ i.0, (i.1.0 + 1, bared_next v t c.step-q.ensures))
 
 pub returns : goal.returns
-returns c = let i = c.loop-pick.invariant in bared_end i.1.1.1 (rw i.0 at c.in-None.ensures.steps.1.0)
+returns c = let i = c.loop-pick.invariant in bared_end i.1.1 (rw i.0 at c.in-None.ensures.steps.1.0)

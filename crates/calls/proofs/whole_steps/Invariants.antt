@@ -2,12 +2,10 @@
 -- Assumes nothing.
 use mathlib.Core.Path.{◌≡◌}
 use Prim.Native.Nat.{ℕ}
-use lib.ListN.{length}
 use Rattle.calls.proofs.Loops.{Bared}
 use Rattle.calls.proofs.whole_steps.Given as goal
 
 abbrev pub invariant-loop-pick : goal.invariant-loop-pick
 invariant-loop-pick l =
     (l.pick-iterator.size ≡ l.fn.p.settings.boards)
-    × ((length l.right ≡ length l.initial.right)
-    × ((k : ℕ) × Bared l.fn.p l.words l.initial.area l.m k l.pick-iterator.rest.now l.q l.area))
+    × ((k : ℕ) × Bared l.fn.p l.words l.initial.area l.m k l.pick-iterator.rest.now l.q l.area)

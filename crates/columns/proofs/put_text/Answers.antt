@@ -1,12 +1,7 @@
--- `columns::put_text` meets its contract. The invariant is `Copied`.
--- Assumes nothing.
-use native.Mathlib.Omega.{arith}
+-- `columns::put_text` meets its contract. Assumes nothing.
 use mathlib.Core.Path.{refl}
-use Rattle.lists.proofs.Splice.{copied_start, copied_turn}
+use Rattle.lists.proofs.Splice.{written-part}
 use Rattle.columns.proofs.put_text.Goals as goal
 
-pub loop-i-init : goal.loop-i-init
-loop-i-init c = copied_start (omega arith)
-
-pub loop-i-preserved : goal.loop-i-preserved
-loop-i-preserved c = copied_turn c.loop-i.invariant refl (omega arith)
+pub returns : goal.returns
+returns c = record { behind = refl; bytes = written-part _ _ _ c.copy_from_slice.ensures.after }

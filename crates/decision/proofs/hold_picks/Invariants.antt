@@ -2,12 +2,10 @@
 -- window begins. Assumes nothing.
 use mathlib.Core.Path.{◌≡◌}
 use Prim.Native.Nat.{ℕ}
-use lib.ListN.{length}
 use Rattle.decision.proofs.Held.{Holding}
 use Rattle.decision.proofs.hold_picks.Given as goal
 
 abbrev pub invariant-loop-pick : goal.invariant-loop-pick
 invariant-loop-pick l =
     (l.pick-iterator.size ≡ l.fn.p.settings.boards)
-    × ((length l.right ≡ length l.initial.right)
-    × ((j : ℕ) × Holding l.fn.p l.words l.initial.area l.m l.k j l.pick-iterator.rest.now l.q l.area))
+    × ((j : ℕ) × Holding l.fn.p l.words l.initial.area l.m l.k j l.pick-iterator.rest.now l.q l.area)

@@ -7,8 +7,4 @@ use Rattle.steps.specs.Walk.{kit_of, ladder}
 use Rattle.steps.proofs.build_left.Given as goal
 
 abbrev pub invariant-loop-i : goal.invariant-loop-i
-invariant-loop-i l = (l.s ≤ l.i) × (l.i ≤ l.m) × (length l.area ≡ length l.initial.area) × (length l.right ≡ length l.initial.right)
-    × (l.area ≡ ladder (kit_of l.p.settings) l.initial.area l.m (l.m - l.i))
-
-abbrev pub decreases-loop-i : goal.decreases-loop-i
-decreases-loop-i l = l.i
+invariant-loop-i l = (l.s ≤ l.i) × (l.i ≤ l.m) × (length l.area ≡ length l.initial.area) × (l.area ≡ ladder (kit_of l.p.settings) l.initial.area l.m (l.m - l.i))

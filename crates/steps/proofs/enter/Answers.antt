@@ -1,35 +1,25 @@
 -- `steps::enter` meets its contract. The place with the pick taken and the start moved is fit for the ladders.
 -- Assumes nothing.
-use Prim.Native.Nat.{◌+◌}
 use mathlib.Core.Path.{◌∙◌, ap}
 use native.Mathlib.Omega.{arith}
 use Rattle.place.specs.declared.Place.{Place}
 use Rattle.place.specs.Places.{picks_taken, start_moved}
 use Rattle.steps.specs.Walk.{extended, entered, written}
-use Rattle.steps.proofs.Fit.{fit_less, able_has, in_part, fit_at, entry_fit, entry_owns, entry_lends, does_at}
+use Rattle.steps.proofs.Fit.{fit_less, fit_at, entry_fit, entry_owns, does_at}
 use Rattle.steps.proofs.enter.Goals as goal
-
-pub own_part-requires : goal.own_part-requires
-own_part-requires c =
-    let h = c.requires in
-    let t = h.0.top in
-    let a = h.0.able in
-    let l = a.cap in
-    (a.few, (omega arith, (h.3, able_has a (in_part (c.args.p.window.taken.0 + 1) (omega arith) (omega arith)))))
 
 pub start_moved-r-requires : goal.start_moved-r-requires
 unfolding picks_taken
 start_moved-r-requires c =
     let h = c.requires in
-    (rw c.picks_taken-q.ensures (omega (arith, h.0.start, h.0.ahead, h.0.top, h.0.able.cap)), h.2)
+    (rw c.picks_taken-q.ensures (omega (arith, h.0.start, h.0.ahead, h.0.top, h.0.able.cap)), h.1)
 
 pub extend-requires : goal.extend-requires
 extend-requires c =
     let h = c.requires in
     let e = c.start_moved-r.ensures ∙ ap (λ (x : Place). start_moved x c.args.k) c.picks_taken-q.ensures in (
       fit_at e c.own_part.auto.area (fit_less 0 (omega arith) (entry_fit h.0)),
-      entry_lends c.args.p c.args.k e h.1,
-      entry_owns c.args.area.now e c.own_part.ensures h.0 h.3,
+      entry_owns c.args.area.now e c.own_part.ensures h.0 h.2,
     )
 
 pub returns : goal.returns

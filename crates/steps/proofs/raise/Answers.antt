@@ -4,14 +4,14 @@ use mathlib.Core.Path.{refl}
 use borrow.Author.Tests.{lt-ltb, le-ltb}
 use Rattle.place.specs.Places.{start_moved}
 use Rattle.steps.specs.Walk.{raised, raised_by, rebuilt}
-use Rattle.steps.proofs.Fit.{fit_at, moved_fit, moved_lends, does_at}
+use Rattle.steps.proofs.Fit.{fit_at, moved_fit, does_at}
 use Rattle.steps.proofs.raise.Goals as goal
 
 pub rebuild-requires : goal.rebuild-requires
 rebuild-requires c =
     let h = c.requires in
     let e = c.start_moved-q.ensures in
-    (fit_at e refl (moved_fit _ h.0 h.2), moved_lends _ e h.1)
+    fit_at e refl (moved_fit _ h.0 h.1)
 
 pub returns-then-b-s : goal.returns-then-b-s
 unfolding raised raised_by start_moved

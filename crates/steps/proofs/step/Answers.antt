@@ -6,18 +6,13 @@ use native.Mathlib.Omega.{arith}
 use lib.Dec.{eqb}
 use borrow.Author.Tests.{eq-eqb, ne_eqb}
 use Rattle.place.proofs.Laws.{and_left, and_right}
-use Rattle.steps.specs.Walk.{tried, ended, stepped, max_step}
+use Rattle.steps.specs.Walk.{ended, stepped, max_step}
 use Rattle.steps.specs.Modes.{kept_by}
-use Rattle.steps.proofs.Fit.{fit_less, able_long, entry_by}
-use Rattle.steps.proofs.Grown.{try_climbs, tried_grown, grown_lends}
-use Rattle.steps.proofs.Closes.{enters_tries, rise_one, rise_walked, moves_max, moves_min, finished_live, max_closes, min_closes, entered-spared}
+use Rattle.steps.proofs.Fit.{fit_less}
+use Rattle.steps.proofs.Grown.{try_climbs}
+use Rattle.steps.proofs.Closes.{enters_tries, rise_walked, moves_max, moves_min, finished_live, max_closes, min_closes, entered-spared}
 use Rattle.steps.proofs.Closes.{does_walked, kept-one, over_walked, live_walked, untested_closes, judged_closes, held_closes}
 use Rattle.steps.proofs.step.Goals as goal
-
-pub picks_taken-requires : goal.picks_taken-requires
-picks_taken-requires c =
-    let h = c.requires.0.entry in
-    (omega (arith, h.top, h.able.cap), omega arith)
 
 pub returns-then-is_over : goal.returns-then-is_over
 unfolding stepped max_step
@@ -28,11 +23,6 @@ returns-then-is_over c =
     does_walked c.args.p _ _ c.args.mode o.0 (kept-one c.args.p.settings (kept_by c.args.mode) one)
     (simp (one, end) (c.picks_taken.ensures, refl))
 
-pub enter-q-requires : goal.enter-q-requires
-enter-q-requires c =
-    let e = c.rise_by-by.ensures in
-    (entry_by e c.requires.0.entry, c.requires.1, rise_one c.args.mode c.args.p e, c.requires.0.shape)
-
 pub returns-then-is_untested : goal.returns-then-is_untested
 returns-then-is_untested c =
     untested_closes c.args.p c.args.area.now c.args.words.now c.args.mode (sym c.is_untested.ensures ∙ c.if-is_untested.true)
@@ -40,22 +30,13 @@ returns-then-is_untested c =
 
 pub judge_ladders-requires : goal.judge_ladders-requires
 judge_ladders-requires c =
-    let f = enters_tries c.args.p c.args.area.now c.args.words.now c.args.mode c.rise_by-by.result c.requires.0 c.rise_by-by.ensures
-    c.enter-q.ensures c.enter-q.auto.area c.enter-q.auto.right c.requires.1 in
+    let f = enters_tries c.args.p c.args.area.now c.args.words.now c.args.mode c.rise_by-by.result c.requires c.rise_by-by.ensures
+    c.enter-q.ensures c.enter-q.auto.area in
     let k = c.is_kept-kept.result in (
-      fit_less 1 (omega arith) f.0,
-      f.1,
+      fit_less 1 (omega arith) f,
       entered-spared c.args.p c.args.area.now _ _ k c.enter-q.ensures
           (sym c.is_spared.ensures ∙ c.if-is_spared.true),
     )
-
-pub shape_of-area-then-is_spared : goal.shape_of-area-then-is_spared
-shape_of-area-then-is_spared c =
-    c.judge_ladders.auto.area ∙ c.enter-q.auto.area
-
-pub shape_of-right-then-is_spared : goal.shape_of-right-then-is_spared
-shape_of-right-then-is_spared c =
-    c.judge_ladders.auto.right ∙ c.enter-q.auto.right
 
 pub returns-then-is_spared : goal.returns-then-is_spared
 returns-then-is_spared c =
@@ -65,17 +46,9 @@ returns-then-is_spared c =
 
 pub try_window-t-requires : goal.try_window-t-requires
 try_window-t-requires c =
-    let f = enters_tries c.args.p c.args.area.now c.args.words.now c.args.mode c.rise_by-by.result c.requires.0 c.rise_by-by.ensures
-    c.enter-q.ensures c.enter-q.auto.area c.enter-q.auto.right c.requires.1 in
-    (fit_less 1 (omega arith) f.0, f.1)
-
-pub shape_of-area-then-is_held : goal.shape_of-area-then-is_held
-shape_of-area-then-is_held c =
-    c.try_window-t.auto.area ∙ c.enter-q.auto.area
-
-pub shape_of-right-then-is_held : goal.shape_of-right-then-is_held
-shape_of-right-then-is_held c =
-    c.try_window-t.auto.right ∙ c.enter-q.auto.right
+    let f = enters_tries c.args.p c.args.area.now c.args.words.now c.args.mode c.rise_by-by.result c.requires c.rise_by-by.ensures
+    c.enter-q.ensures c.enter-q.auto.area in
+    fit_less 1 (omega arith) f
 
 pub returns-then-is_held : goal.returns-then-is_held
 returns-then-is_held c =
@@ -85,22 +58,9 @@ returns-then-is_held c =
 
 pub climb-r-requires : goal.climb-r-requires
 climb-r-requires c =
-    let f = enters_tries c.args.p c.args.area.now c.args.words.now c.args.mode c.rise_by-by.result c.requires.0 c.rise_by-by.ensures
-    c.enter-q.ensures c.enter-q.auto.area c.enter-q.auto.right c.requires.1 in
-    let t = try_climbs _ _ f.0 c.try_window-t.ensures c.try_window-t.auto.area in
-    (t, grown_lends (tried _) _ _ c.try_window-t.ensures (tried_grown _ _) c.try_window-t.auto.right f.1)
-
-pub clear_spare-requires : goal.clear_spare-requires
-clear_spare-requires c =
-    able_long (c.climb-r.auto.area ∙ c.try_window-t.auto.area ∙ c.enter-q.auto.area) c.requires.0.entry.able
-
-pub shape_of-area-then-p-eq1 : goal.shape_of-area-then-p-eq1
-shape_of-area-then-p-eq1 c =
-    c.clear_spare.auto.area ∙ c.climb-r.auto.area ∙ c.try_window-t.auto.area ∙ c.enter-q.auto.area
-
-pub shape_of-right-then-p-eq1 : goal.shape_of-right-then-p-eq1
-shape_of-right-then-p-eq1 c =
-    c.climb-r.auto.right ∙ c.try_window-t.auto.right ∙ c.enter-q.auto.right
+    let f = enters_tries c.args.p c.args.area.now c.args.words.now c.args.mode c.rise_by-by.result c.requires c.rise_by-by.ensures
+    c.enter-q.ensures c.enter-q.auto.area in
+    try_climbs _ _ f c.try_window-t.ensures c.try_window-t.auto.area
 
 pub returns-then-p-eq1 : goal.returns-then-p-eq1
 unfolding stepped
@@ -108,24 +68,12 @@ returns-then-p-eq1 c =
     let one = c.if-p-eq1.true in
     let e = eq-eqb _ _ one in
     let held = sym c.is_held.ensures ∙ c.if-is_held.false in
-    let t = rw (rise_walked c.args.mode c.args.p held refl) at c.requires.0.entry.ahead in
+    let t = rw (rise_walked c.args.mode c.args.p held refl) at c.requires.entry.ahead in
     let m = moves_max c.args.p one (rise_walked c.args.mode c.args.p held c.rise_by-by.ensures) in
     let live = finished_live c.args.p one (live_walked c.args.mode c.args.p held (sym c.is_over.ensures ∙ c.if-is_over.false)) in
     does_walked c.args.p _ _ c.args.mode held (kept-one c.args.p.settings (kept_by c.args.mode) e)
     (simp e (max_closes c.args.p _ _ (simp e at t) live m c.enter-q.ensures c.try_window-t.ensures c.climb-r.ensures
     c.clear_spare.ensures))
-
-pub clear_spare-requires-2 : goal.clear_spare-requires-2
-clear_spare-requires-2 c =
-    able_long (c.try_window-t.auto.area ∙ c.enter-q.auto.area) c.requires.0.entry.able
-
-pub shape_of-area : goal.shape_of-area
-shape_of-area c =
-    c.clear_spare-2.auto.area ∙ c.try_window-t.auto.area ∙ c.enter-q.auto.area
-
-pub shape_of-right : goal.shape_of-right
-shape_of-right c =
-    c.try_window-t.auto.right ∙ c.enter-q.auto.right
 
 pub returns : goal.returns
 unfolding stepped

@@ -10,8 +10,8 @@ use Rattle.steps.proofs.try_window.Goals as goal
 pub judge-requires : goal.judge-requires
 judge-requires c =
     let h = c.requires in
-    let i = h.0.inside in
-    fit_at c.window-q.ensures.0 c.window-q.auto.area (fit_grown (windowed_grown _ _) (omega arith) (omega arith) (omega arith) h.0)
+    let i = h.inside in
+    fit_at c.window-q.ensures.0 c.window-q.auto.area (fit_grown (windowed_grown _ _) (omega arith) (omega arith) (omega arith) h)
 
 pub returns : goal.returns
 unfolding tried judged windowed charged

@@ -9,6 +9,3 @@ overflow_mul-result c = omega (
   needed_most c.args.measure c.args.n c.args.limit c.width-e.result c.requires.0
       c.requires.1 c.width-e.ensures,
 )
-
-pub returns : goal.returns
-returns c = simp c.width-e.ensures

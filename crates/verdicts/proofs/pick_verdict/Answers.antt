@@ -22,4 +22,3 @@ is_listed-requires c =
       sym c.if-words-n.false,
       not_short _ _ (sym c.is_short.ensures ∙ c.if-is_short.false),
     )
-

@@ -1,5 +1,0 @@
--- `columns::put_decimal` calls itself; the measure is x.
-use Rattle.columns.proofs.+put_decimal.Given as goal
-
-abbrev pub decreases-put_decimal : goal.decreases-put_decimal
-decreases-put_decimal l = l.x
