@@ -26,16 +26,16 @@ pub fn fill_with_links(words: &mut [u32]) {
 
 // A case with its recording, whose words are those of its picks. It has some boards, and no more boards and picks than 01 allows.
 #[derive(Clone, Copy)]
-pub struct Recorded<'a> {
-    pub case: Case<'a>,
-    pub recording: Recording<'a>,
+pub struct Recorded<'c, 'w> {
+    pub case: Case<'c>,
+    pub recording: Recording<'w>,
     ghost some_boards: { 1 ≤ recording.boards },
     ghost held: { length recording.words.now ≡ recording.picks * recording.boards },
 }
 
-impl<'a> Recorded<'a> {
+impl<'c, 'w> Recorded<'c, 'w> {
     // None where the recording has no boards or is too large, or the words do not hold it.
-    pub fn new(case: Case<'a>, boards: usize, picks: usize, words: &'a [u32]) -> Option<Self> {
+    pub fn new(case: Case<'c>, boards: usize, picks: usize, words: &'w [u32]) -> Option<Self> {
         if boards < 1 || 32 < boards || 4096 < picks {
             return None;
         }

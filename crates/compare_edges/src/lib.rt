@@ -3,7 +3,7 @@
 
 use compare_cases::{MARK, fill_with_links, is_marked};
 use compare_rows::{Edge, OPEN_EDGES, READ_EDGES, TABLE_EDGES, WHOLE_EDGES, compare_edges};
-use compare_tallies::{Call, Case, Group, Outcome, Tally};
+use compare_tallies::{Case, Outcome, Tally};
 use model::Refusal;
 use place::Place;
 
@@ -62,73 +62,70 @@ fn decide_refusal(refusal: Option<Refusal>, k: usize, picks: usize) -> Option<Re
     }
 }
 
+// ---- the tables
+
+pub fn tally_whole<'a, R: Print>(rt: &'a R, words: &mut [u32], area: &mut [u32]) -> Tally<'a, R> {
+    let mut tally = Tally::new(rt, "edges-whole", None);
+    compare_edges(&mut tally, WHOLE_EDGES, |edge| {
+        run_with_links(edge, words, area, |words, area| {
+            let answer = calls::whole(edge.boards, edge.measure, words, area);
+            answer.length.err().into()
+        })
+    });
+    tally
+}
+
 // Each row of a whole run is asked with five window lengths: 0, 1, the number of picks, one more, and the largest number.
-fn compare_decisions<R: Print>(tally: &mut Tally<'_, R>, words: &mut [u32], area: &mut [u32]) {
+pub fn tally_decide<'a, R: Print>(rt: &'a R, words: &mut [u32], area: &mut [u32]) -> Tally<'a, R> {
+    let mut tally = Tally::new(rt, "edges-decide", None);
     for edge in WHOLE_EDGES {
         let picks = edge.lent.checked_div(edge.boards).unwrap_or(0);
         for k in [0, 1, picks, picks.wrapping_add(1), usize::MAX] {
             let got = run_with_links(edge, words, area, |words, area| {
-                decision::decide(edge.boards, edge.measure, words, k, area)
-                    .err()
-                    .into()
+                let decision = decision::decide(edge.boards, edge.measure, words, k, area);
+                decision.err().into()
             });
             tally.compare_row(got, decide_refusal(edge.refusal, k, picks));
         }
     }
-}
-
-// A file with two boards and two picks.
-const FILE: [u8; 5] = [0x42, 0x02, 0x50, 0x50, 0x45];
-
-// ---- all tables
-
-pub fn tally<'a, R: Print>(
-    rt: &'a R,
-    call: Call,
-    words: &mut [u32],
-    area: &mut [u32],
-) -> Tally<'a, R> {
-    let mut tally = Tally::new(rt, Group::Edges(call));
-    match call {
-        Call::Whole => compare_edges(&mut tally, WHOLE_EDGES, |edge| {
-            run_with_links(edge, words, area, |words, area| {
-                calls::whole(edge.boards, edge.measure, words, area)
-                    .length
-                    .err()
-                    .into()
-            })
-        }),
-        Call::Decide => compare_decisions(&mut tally, words, area),
-        Call::Table => compare_edges(&mut tally, TABLE_EDGES, |edge| {
-            run_with_links(
-                edge,
-                words,
-                area,
-                |words, out| reach::table(edge.boards, words, out).err().into(),
-            )
-        }),
-        Call::Open => compare_edges(&mut tally, OPEN_EDGES, |edge| {
-            words.fill(0);
-            run(edge, words, area, |list, area| opening(edge, list, area))
-        }),
-        Call::Read => compare_edges(&mut tally, READ_EDGES, |edge| {
-            run(edge, words, area, |_, out| {
-                recording::read(&FILE[..edge.lent.min(5)], edge.limit, out)
-                    .err()
-                    .into()
-            })
-        }),
-        Call::Pick(measure) => compare_walk_edges::compare_picks(&mut tally, measure, area, words),
-        Call::Altered => compare_walk_edges::compare_altered(&mut tally, area, words),
-    }
     tally
 }
 
-// ---- the table of reach of A
+pub fn tally_table<'a, R: Print>(rt: &'a R, words: &mut [u32], area: &mut [u32]) -> Tally<'a, R> {
+    let mut tally = Tally::new(rt, "edges-table", None);
+    compare_edges(&mut tally, TABLE_EDGES, |edge| {
+        run_with_links(edge, words, area, |words, out| {
+            reach::table(edge.boards, words, out).err().into()
+        })
+    });
+    tally
+}
 
-// As 01 states it: words 2 and 1, where nothing refused it.
-pub fn tally_of_a<'a, R: Print>(rt: &'a R, out: &mut [u32]) -> Tally<'a, R> {
-    let mut tally = Tally::new(rt, Group::TableOfA);
+pub fn tally_open<'a, R: Print>(rt: &'a R, words: &mut [u32], area: &mut [u32]) -> Tally<'a, R> {
+    let mut tally = Tally::new(rt, "edges-open", None);
+    compare_edges(&mut tally, OPEN_EDGES, |edge| {
+        words.fill(0);
+        run(edge, words, area, |list, area| opening(edge, list, area))
+    });
+    tally
+}
+
+// Of a file with two boards and two picks.
+pub fn tally_read<'a, R: Print>(rt: &'a R, words: &mut [u32], area: &mut [u32]) -> Tally<'a, R> {
+    let mut tally = Tally::new(rt, "edges-read", None);
+    let file = [0x42u8, 0x02, 0x50, 0x50, 0x45];
+    compare_edges(&mut tally, READ_EDGES, |edge| {
+        run(edge, words, area, |_, out| {
+            let bytes = &file[..edge.lent.min(5)];
+            recording::read(bytes, edge.limit, out).err().into()
+        })
+    });
+    tally
+}
+
+// The table of reach of A, as 01 states it: words 2 and 1, where nothing refused it.
+pub fn tally_table_of_a<'a, R: Print>(rt: &'a R, out: &mut [u32]) -> Tally<'a, R> {
+    let mut tally = Tally::new(rt, "table-of-A", None);
     let a = [2u32, 0, 0, 1, 2, 0, 0, 1];
     tally.compare_row(reach::table(2, &a, out).err().into(), None);
     for (u, wanted) in [2, 1].iter().enumerate() {

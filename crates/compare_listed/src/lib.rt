@@ -5,6 +5,7 @@ use compare_tallies::Outcome;
 use model::{Compositions, Refusal, Tests};
 use place::Counts;
 
+#[derive(Drop)]
 pub enum Listed<'a> {
     // A file and the number of its refusal, 0 where it is read: `no-end.loom:12`.
     Read {

@@ -5,7 +5,7 @@ ghost use Rattle.std.specs.Prelude.{◌≤◌, ◌<◌, IfSome};
 
 use calls::Answer;
 use compare_cases::Recorded;
-use compare_tallies::{Kind, Outcome, Tally};
+use compare_tallies::{Outcome, Tally};
 use model::{Compositions, Refusal, Tests};
 use naive::Recording;
 use naive_walk::Walk;
@@ -13,7 +13,7 @@ use place::Counts;
 
 // ---- lent whole
 
-fn run_whole(recording: &Recording<'_>, measure: usize, area: &mut [u32]) -> Answer {
+pub fn run_whole(recording: &Recording<'_>, measure: usize, area: &mut [u32]) -> Answer {
     calls::whole(recording.boards, measure, recording.words, area)
 }
 
@@ -25,9 +25,9 @@ fn naive_whole(walk: &Walk<'_>) -> Outcome {
     compare_walks::naive_answer(walk, walk.whole())
 }
 
-fn compare_whole<R: Print>(
+pub fn compare_whole<R: Print>(
     tally: &mut Tally<'_, R>,
-    recorded: &Recorded<'_>,
+    recorded: &Recorded<'_, '_>,
     measure: usize,
     area: &mut [u32],
 ) {
@@ -59,9 +59,9 @@ fn bounded(counts: Counts, measure: usize, m: usize) -> Counts
     }
 }
 
-fn compare_counts<R: Print>(
+pub fn compare_counts<R: Print>(
     tally: &mut Tally<'_, R>,
-    recorded: &Recorded<'_>,
+    recorded: &Recorded<'_, '_>,
     measure: usize,
     area: &mut [u32],
 ) {
@@ -98,9 +98,9 @@ fn naive_decision(walk: &Walk<'_>, k: usize) -> Outcome
 }
 
 // Every window length from 1 to the number of picks: no recording here has more than 40.
-fn compare_decisions<R: Print>(
+pub fn compare_decisions<R: Print>(
     tally: &mut Tally<'_, R>,
-    recorded: &Recorded<'_>,
+    recorded: &Recorded<'_, '_>,
     measure: usize,
     area: &mut [u32],
 ) {
@@ -126,7 +126,7 @@ fn row_apart(recording: &Recording<'_>, table: &[u32]) -> Option<usize>
 }
 
 // What the call wrote, against the second implementation, at the row that shows a difference if any does.
-fn compare_rows<R: Print>(tally: &mut Tally<'_, R>, recorded: &Recorded<'_>, table: &[u32]) {
+fn compare_rows<R: Print>(tally: &mut Tally<'_, R>, recorded: &Recorded<'_, '_>, table: &[u32]) {
     let recording = recorded.recording;
     let u = row_apart(&recording, table).unwrap_or(0);
     let got = table.get(u).map_or(0, |word| *word as usize);
@@ -138,7 +138,11 @@ fn compare_rows<R: Print>(tally: &mut Tally<'_, R>, recorded: &Recorded<'_>, tab
     );
 }
 
-fn compare_table<R: Print>(tally: &mut Tally<'_, R>, recorded: &Recorded<'_>, out: &mut [u32]) {
+pub fn compare_table<R: Print>(
+    tally: &mut Tally<'_, R>,
+    recorded: &Recorded<'_, '_>,
+    out: &mut [u32],
+) {
     let recording = recorded.recording;
     let wanted = (recording.picks == 0).then_some(Refusal::NoPick);
     let refusal = reach::table(recording.boards, recording.words, out).err();
@@ -146,29 +150,5 @@ fn compare_table<R: Print>(tally: &mut Tally<'_, R>, recorded: &Recorded<'_>, ou
         tally.compare(recorded.case, refusal.into(), wanted.into());
     } else {
         compare_rows(tally, recorded, out);
-    }
-}
-
-// ---- all of it
-
-// What a whole run answers of a recording.
-pub fn whole_of(recording: &Recording<'_>, measure: usize, area: &mut [u32]) -> Outcome {
-    run_whole(recording, measure, area).into()
-}
-
-// The cases of one kind: one, or one for each pick, window length or step of saving.
-pub fn run<R: Print>(
-    tally: &mut Tally<'_, R>,
-    kind: Kind,
-    recorded: &Recorded<'_>,
-    area: &mut [u32],
-) {
-    match kind {
-        Kind::Whole(measure) => compare_whole(tally, recorded, measure, area),
-        Kind::Picks(measure) => compare_walks::compare_picks(tally, recorded, measure, area),
-        Kind::Counts(measure) => compare_counts(tally, recorded, measure, area),
-        Kind::Decisions(measure) => compare_decisions(tally, recorded, measure, area),
-        Kind::Tables => compare_table(tally, recorded, area),
-        Kind::Saves => compare_saves::compare_saves(tally, recorded, area),
     }
 }

@@ -4,7 +4,7 @@
 use compare_cases::fill_with_links;
 use compare_rows::{Edge, SAVE_EDGES, compare_edges};
 use compare_saves::{marked, saved_as};
-use compare_tallies::{Group, Outcome, Tally};
+use compare_tallies::{Outcome, Tally};
 use naive::Recording;
 
 // Writes the file of a row that is not refused, and answers its size; 0 and nothing for any other.
@@ -43,7 +43,7 @@ fn run(edge: &Edge, words: &mut [u32]) -> Outcome {
 }
 
 pub fn tally<'a, R: Print>(rt: &'a R, words: &mut [u32]) -> Tally<'a, R> {
-    let mut tally = Tally::new(rt, Group::SaveEdges);
+    let mut tally = Tally::new(rt, "edges-save", None);
     compare_edges(&mut tally, SAVE_EDGES, |edge| run(edge, words));
     tally
 }

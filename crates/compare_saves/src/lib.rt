@@ -69,7 +69,7 @@ fn read_back(recording: &Recording<'_>, file: &[u8], area: &mut [u32]) -> Outcom
 // read back; 5, what was read saved again, which is the same file.
 pub fn compare_saves<R: Print>(
     tally: &mut Tally<'_, R>,
-    recorded: &Recorded<'_>,
+    recorded: &Recorded<'_, '_>,
     area: &mut [u32],
 ) {
     let case = recorded.case;

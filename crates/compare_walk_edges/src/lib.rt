@@ -3,7 +3,7 @@
 #![tactic(auto)]
 
 use compare_rows::{PICK_EDGES, PLACE_EDGES, PickEdge};
-use compare_tallies::{Case, Group, Outcome, Tally};
+use compare_tallies::{Case, Outcome, Tally};
 use model::{Compositions, Refusal, Tests};
 use place::{Counts, Place};
 
@@ -70,12 +70,13 @@ fn pick_edge(edge: &PickEdge, measure: usize, area: &mut [u32], kept: &mut [u32]
     )
 }
 
-pub fn compare_picks<R: Print>(
-    tally: &mut Tally<'_, R>,
+pub fn tally_picks<'a, R: Print>(
+    rt: &'a R,
     measure: usize,
     area: &mut [u32],
     kept: &mut [u32],
-) {
+) -> Tally<'a, R> {
+    let mut tally = Tally::new(rt, "edges-pick", Some(measure));
     for edge in PICK_EDGES {
         let refusal = if measure == 2 {
             edge.refusal_listed
@@ -84,6 +85,7 @@ pub fn compare_picks<R: Print>(
         };
         tally.compare_row(pick_edge(edge, measure, area, kept), refusal);
     }
+    tally
 }
 
 // ---- an altered place
@@ -103,7 +105,8 @@ fn altered_pick(p: Place, lent: usize, area: &mut [u32], kept: &mut [u32]) -> Ou
 }
 
 // Two cases a row: what the pick call answers of an altered place, and what the length call.
-pub fn compare_altered<R: Print>(tally: &mut Tally<'_, R>, area: &mut [u32], kept: &mut [u32]) {
+pub fn tally_places<'a, R: Print>(rt: &'a R, area: &mut [u32], kept: &mut [u32]) -> Tally<'a, R> {
+    let mut tally = Tally::new(rt, "edges-place", None);
     for (i, edge) in PLACE_EDGES.iter().enumerate() {
         let p = edge.altered();
         let pick = altered_pick(p, edge.lent, area, kept);
@@ -118,13 +121,14 @@ pub fn compare_altered<R: Print>(tally: &mut Tally<'_, R>, area: &mut [u32], kep
             edge.refusal_length.into(),
         );
     }
+    tally
 }
 
 // ---- the limit
 
 // A place that was just opened has no length yet, 8; after all its picks it has, and one pick more is refused, 7.
-pub fn limit_tally<'a, R: Print>(rt: &'a R, area: &mut [u32], kept: &mut [u32]) -> Tally<'a, R> {
-    let mut tally = Tally::new(rt, Group::Limit);
+pub fn tally_limit<'a, R: Print>(rt: &'a R, area: &mut [u32], kept: &mut [u32]) -> Tally<'a, R> {
+    let mut tally = Tally::new(rt, "edges-limit", None);
     let both = [2u32, 1];
     let most = 4096;
     let fresh = compare_walks::opened(2, 3, most, &both, area);

@@ -61,7 +61,7 @@ pub fn measured(p: Place, k: usize) -> Outcome {
 
 pub fn compare_picks<R: Print>(
     tally: &mut Tally<'_, R>,
-    recorded: &Recorded<'_>,
+    recorded: &Recorded<'_, '_>,
     measure: usize,
     area: &mut [u32],
 ) {
