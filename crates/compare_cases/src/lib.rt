@@ -1,138 +1,105 @@
-// Words of recordings: stored and looked at within bounds, copied, and drawn by a generator. Places, field by field.
+// The recordings of cases: those that are handed in, and those that are drawn by a generator. What stands in lent words before a call.
 #![tactic(auto)]
 
-ghost use Rattle.std.specs.Prelude.{◌≤◌, ◌<◌};
+ghost use Rattle.std.specs.Prelude.{◌≡◌, ◌*◌, ◌≤◌, length};
 
-use place::{Counts, Place, Settings, TestMarks, Window};
+use compare_tallies::Case;
+use naive::Recording;
 
-// ---- words
-
-// Stores x at i, where there is such a word.
-pub fn put(out: &mut [u32], i: usize, x: u32) {
-    if i < out.len() {
-        out[i] = x;
-    }
-}
-
-// The word at i, 0 where there is none.
-pub fn word_at(words: &[u32], i: usize) -> u32 {
-    if i < words.len() {
-        return words[i];
-    }
-    0
-}
+// ---- lent words
 
 // Stands in every lent word before a call, so that a word that was written shows.
-const MARK: u32 = 0xA5A5A5A5;
+pub const MARK: u32 = 0xA5A5A5A5;
 
-fn of_turn(i: usize, x: u32, y: u32) -> u32 {
-    if i % 2 == 0 { x } else { y }
-}
-
-// Words x and y by turns.
-pub fn fill_by_turns(out: &mut [u32], x: u32, y: u32) {
-    let end = out.len();
-    for i in 0..end {
-        put(out, i, of_turn(i, x, y));
-    }
-}
-
-pub fn mark(out: &mut [u32]) {
-    fill_by_turns(out, MARK, MARK);
-}
-
-// The first words of out are those of from.
-pub fn copy(out: &mut [u32], from: &[u32]) {
-    let end = from.len();
-    for i in 0..end {
-        put(out, i, word_at(from, i));
-    }
-}
-
-// Whether the first words of out are those of from.
-pub fn is_copy(out: &[u32], from: &[u32]) -> bool {
-    let end = from.len();
-    for i in 0..end {
-        if word_at(out, i) != word_at(from, i) {
-            return false;
-        }
-    }
-    true
-}
-
-// Every word is the mark: the first one, and each is as the one before.
 pub fn is_marked(words: &[u32]) -> bool {
-    if words.len() == 0 {
-        return true;
+    words.iter().all(|word| *word == MARK)
+}
+
+// Both links of two boards, pick after pick.
+pub fn fill_with_links(words: &mut [u32]) {
+    for (i, word) in words.iter_mut().enumerate() {
+        *word = if i % 2 == 0 { 2 } else { 1 };
     }
-    if words[0] != MARK {
-        return false;
+}
+
+// ---- recordings of cases
+
+// A case with its recording, whose words are those of its picks. It has some boards, and no more boards and picks than 01 allows.
+#[derive(Clone, Copy)]
+pub struct Recorded<'c, 'w> {
+    pub case: Case<'c>,
+    pub recording: Recording<'w>,
+    ghost some_boards: { 1 ≤ recording.boards },
+    ghost held: { length recording.words.now ≡ recording.picks * recording.boards },
+}
+
+impl<'c, 'w> Recorded<'c, 'w> {
+    // None where the recording has no boards or is too large, or the words do not hold it.
+    pub fn new(case: Case<'c>, boards: usize, picks: usize, words: &'w [u32]) -> Option<Self> {
+        if boards < 1 || 32 < boards || 4096 < picks {
+            return None;
+        }
+        Some(Recorded {
+            case,
+            recording: Recording {
+                words: words.get(..picks * boards)?,
+                boards,
+                picks,
+            },
+        })
     }
-    is_copy(words, &words[1..])
-}
-
-// ---- places
-
-fn are_same_settings(a: Settings, b: Settings) -> bool {
-    (a.boards == b.boards) & (a.measure == b.measure) & (a.limit == b.limit)
-}
-
-fn are_same_windows(a: Window, b: Window) -> bool {
-    (a.taken.0 == b.taken.0) & (a.start.0 == b.start.0) & (a.boundary.0 == b.boundary.0)
-}
-
-fn are_same_marks(a: TestMarks, b: TestMarks) -> bool {
-    (a.failed == b.failed) & (a.passed == b.passed)
-}
-
-fn are_same_counts(a: Counts, b: Counts) -> bool {
-    (a.compositions.0 == b.compositions.0) & (a.tests.0 == b.tests.0)
-}
-
-pub fn is_same_place(a: Place, b: Place) -> bool {
-    are_same_settings(a.settings, b.settings)
-        & are_same_windows(a.window, b.window)
-        & are_same_marks(a.marks, b.marks)
-        & are_same_counts(a.counts, b.counts)
 }
 
 // ---- generated recordings
 
-// A step of Marsaglia's xorshift.
-fn draw(x: u32) -> u32 {
-    let a = x ^ (x << 13);
-    let b = a ^ (a >> 17);
-    b ^ (b << 5)
+// About how many of the links are open.
+#[derive(Clone, Copy)]
+pub enum Share {
+    Half,
+    Eighth,
+    SevenEighths,
+    ThirtySecond,
 }
 
-// Of three draws: a half, an eighth, seven eighths or about a thirty-second of the links.
-fn mixed(x: u32, y: u32, z: u32, share: usize) -> u32 {
-    match share {
-        0 => x,
-        1 => x & y & z,
-        2 => x | y | z,
-        _ => x & y & z & (x >> 11) & (y << 7),
+// Marsaglia's xorshift.
+#[derive(Drop)]
+pub struct Generator {
+    state: u32,
+}
+
+impl Generator {
+    // Its first state is Marsaglia's own.
+    pub fn new() -> Self {
+        Generator { state: 2463534242 }
     }
-}
 
-// The first n bits of a draw that are not u's own.
-fn row_of(x: u32, n: usize, u: usize) -> u32
-    requires { (n ≤ 32) × ((1 ≤ n) × (u < 32)) }
-{
-    (x >> (32 - n)) & !(1u32 << u)
-}
-
-// Fills the first `end` words with rows over n boards, and answers the generator's state.
-pub fn generate(words: &mut [u32], n: usize, end: usize, share: usize, state: u32) -> u32
-    requires { (n ≤ 32) × (1 ≤ n) }
-{
-    let mut x = state;
-    for i in 0..end {
-        let y = draw(x);
-        let z = draw(y);
-        let w = draw(z);
-        put(words, i, row_of(mixed(y, z, w, share), n, i % n));
-        x = w;
+    fn draw(&mut self) -> u32 {
+        let mut x = self.state;
+        x ^= x << 13;
+        x ^= x >> 17;
+        x ^= x << 5;
+        self.state = x;
+        x
     }
-    x
+
+    fn mixed(&mut self, share: Share) -> u32 {
+        let x = self.draw();
+        let y = self.draw();
+        let z = self.draw();
+        match share {
+            Share::Half => x,
+            Share::Eighth => x & y & z,
+            Share::SevenEighths => x | y | z,
+            Share::ThirtySecond => x & y & z & (x >> 11) & (y << 7),
+        }
+    }
+
+    // Fills words with picks over n boards: the first n bits of a draw, but for the board's own.
+    pub fn fill(&mut self, words: &mut [u32], n: usize, share: Share)
+        requires { (1 ≤ n) × (n ≤ 32) }
+    {
+        for (i, word) in words.iter_mut().enumerate() {
+            *word = (self.mixed(share) >> (32 - n)) & !(1u32 << (i % n));
+        }
+    }
 }

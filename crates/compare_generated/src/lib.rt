@@ -1,54 +1,44 @@
 // Generated recordings: one of 5 to 9 picks for each number of boards, 2 to 32, and each share of links.
 #![tactic(auto)]
 
-use compare_tallies::{Case, Group, Kind, Tally};
+use compare_cases::{Generator, Recorded, Share};
+use compare_tallies::{Case, Outcome, Tally};
 
 // 31 numbers of boards times 4 shares.
 const COUNT: usize = 124;
 
+const SHARES: [Share; 4] = [
+    Share::Half,
+    Share::Eighth,
+    Share::SevenEighths,
+    Share::ThirtySecond,
+];
+
 // The words of the largest, 9 picks over 32 boards.
 const WORDS: usize = 288;
 
-// The generator's first state, Marsaglia's own.
-const SEED: u32 = 2463534242;
-
-// A tally, and the generator's state behind it.
-#[derive(Clone, Copy)]
-struct Drawn {
-    tally: Tally,
-    state: u32,
-}
-
-fn run_one(
-    kind: Kind,
-    measure: usize,
-    i: usize,
-    words: &mut [u32],
+// What is run of each of them, under a measure where there is one.
+pub fn tally<'a, R: Print, F: Fn(&mut Tally<'_, R>, &Recorded<'_, '_>, &mut [u32])>(
+    rt: &'a R,
+    group: &'a str,
+    measure: Option<usize>,
     area: &mut [u32],
-    d: Drawn,
-) -> Drawn {
-    let bare = compare_tallies::numbered(i, measure);
-    let case = Case {
-        boards: 2 + i % 31,
-        picks: 5 + i % 5,
-        ..bare
-    };
-    let next = compare_cases::generate(words, case.boards, WORDS, i % 4, d.state);
-    let t = d.tally;
-    let sum = compare_runs::run(kind, t, b"recording", case, words, area);
-    Drawn {
-        tally: sum,
-        state: next,
-    }
-}
-
-pub fn tally(kind: Kind, measure: usize, words: &mut [u32], area: &mut [u32]) -> Tally {
-    let mut d = Drawn {
-        tally: compare_tallies::no_cases(Group::Generated(kind)),
-        state: SEED,
-    };
+    run: F,
+) -> Tally<'a, R>
+    requires { F.IsAlwaysCallable run }
+{
+    let mut tally = Tally::new(rt, group, measure);
+    let mut generator = Generator::new();
+    let mut words = [0u32; WORDS];
     for i in 0..COUNT {
-        d = run_one(kind, measure, i, words, area, d);
+        let boards = 2 + i % 31;
+        let picks = 5 + i % 5;
+        let case = Case::new("recording", i, measure);
+        generator.fill(&mut words, boards, SHARES[i % 4]);
+        match Recorded::new(case, boards, picks, &words) {
+            Some(recorded) => run(&mut tally, &recorded, area),
+            None => tally.compare(case, Outcome::NotRun, Outcome::from(None)),
+        }
     }
-    d.tally
+    tally
 }

@@ -1,82 +1,91 @@
-// A case as one word, its fields parted by colons. A file and the number of its refusal, 0 where it is read:
-// `no-end.loom:12`. Or a file, a measure, and what a whole run answers, length, refusal, compositions, tests:
-// `A.loom:1:-:9:0:1`.
+// A case as one word, its fields parted by colons.
 #![tactic(auto)]
 
-ghost use Rattle.std.specs.Prelude.{◌≤◌, length};
+use compare_tallies::Outcome;
+use model::{Compositions, Refusal, Tests};
+use place::Counts;
 
-// How many colons were met, and the number in the field that is looked for.
-#[derive(Clone, Copy)]
-struct Seen {
-    colons: usize,
-    number: usize,
+#[derive(Drop)]
+pub enum Listed<'a> {
+    // A file and the number of its refusal, 0 where it is read: `no-end.loom:12`.
+    Read {
+        file: &'a str,
+        refusal: Option<Refusal>,
+    },
+    // A file, a measure, and what a whole run answers, length, refusal, compositions, tests: `A.loom:1:-:9:0:1`.
+    Stated {
+        file: &'a str,
+        measure: usize,
+        answer: Outcome,
+    },
 }
 
-// A number keeps its last six digits: no case has more, and no text overflows it.
-const KEPT: usize = 100000;
+static REFUSALS: [Refusal; 18] = [
+    Refusal::Boards,
+    Refusal::Measure,
+    Refusal::Picks,
+    Refusal::Room,
+    Refusal::Forbidden,
+    Refusal::Unlisted,
+    Refusal::Full,
+    Refusal::NoPick,
+    Refusal::NoLength,
+    Refusal::Shape,
+    Refusal::Command,
+    Refusal::Stopped,
+    Refusal::Operands,
+    Refusal::Unchanged,
+    Refusal::Trailing,
+    Refusal::BadPlace,
+    Refusal::WindowLength,
+    Refusal::FileRoom,
+];
 
-// The value of a digit; 0 for any other byte, a dash too.
-fn digit(b: u8) -> usize
-    ensures { result ≤ 9 }
-{
-    if b < b'0' {
-        return 0;
-    }
-    if b'9' < b {
-        return 0;
-    }
-    (b - b'0') as usize
+fn number(field: &str) -> Option<usize> {
+    field.parse().ok()
 }
 
-fn scanned(s: Seen, b: u8, k: usize) -> Seen {
-    if b == b':' {
-        return Seen {
-            colons: std::num::wrapping_add_usize(s.colons, 1),
-            number: s.number,
-        };
+// The refusal of a number, none for 0; a number that no refusal has is no field of a case.
+fn refusal_of(field: &str) -> Option<Option<Refusal>> {
+    let number = field.parse::<u32>().ok()?;
+    if number == 0 {
+        return Some(None);
     }
-    if s.colons != k {
-        return s;
-    }
-    Seen {
-        colons: s.colons,
-        number: s.number % KEPT * 10 + digit(b),
-    }
+    let refusal = REFUSALS
+        .iter()
+        .copied()
+        .find(|cause| u32::from(*cause) == number);
+    Some(Some(refusal?))
 }
 
-fn scan(text: &[u8], k: usize) -> Seen {
-    let mut s = Seen {
-        colons: 0,
-        number: 0,
-    };
-    let end = text.len();
-    for i in 0..end {
-        s = scanned(s, text[i], k);
-    }
-    s
-}
-
-// How many fields the word has.
-pub fn fields(text: &[u8]) -> usize {
-    let s = scan(text, 0);
-    std::num::wrapping_add_usize(s.colons, 1)
-}
-
-// The number in field k, the file's name being field 0.
-pub fn field(text: &[u8], k: usize) -> usize {
-    let s = scan(text, k);
-    s.number
-}
-
-// Where the file's name ends.
-pub fn name_end(text: &[u8]) -> usize
-    ensures { result ≤ length text.now }
-{
-    let end = text.len();
-    for i in 0..end {
-        if text[i] == b':' {
-            return i;
+// None where the word is no case.
+pub fn parse(text: &str) -> Option<Listed<'_>> {
+    let mut fields = text.split(':');
+    let file = fields.next()?;
+    match text.split(':').count() {
+        2 => Some(Listed::Read {
+            file,
+            refusal: refusal_of(fields.next()?)?,
+        }),
+        6 => {
+            let measure = number(fields.next()?)?;
+            let length = number(fields.next()?);
+            let value = match refusal_of(fields.next()?)? {
+                None => Ok(length?),
+                Some(cause) => Err(cause),
+            };
+            let compositions = Compositions(number(fields.next()?)?);
+            let tests = Tests(number(fields.next()?)?);
+            let counts = Counts {
+                compositions,
+                tests,
+            };
+            Some(Listed::Stated {
+                file,
+                measure,
+                answer: Outcome::Answered { value, counts },
+            })
         }
+        _ => None,
     }
-    end
 }

@@ -1,210 +1,154 @@
 // The recording of a case, run by the calls and compared with the second implementation.
 #![tactic(auto)]
 
-ghost use Rattle.std.specs.Prelude.{◌≤◌, ◌<◌};
-ghost use Rattle.compare_tallies.specs.Held.{Sized, Held};
+ghost use Rattle.std.specs.Prelude.{◌≤◌, ◌<◌, IfSome};
 
-use compare_tallies::{Case, Kind, MOST_BOARDS, MOST_PICKS, Outcome, Tally};
+use calls::Answer;
+use compare_cases::Recorded;
+use compare_tallies::{Outcome, Tally};
+use model::{Compositions, Refusal, Tests};
+use naive::Recording;
+use naive_walk::Walk;
+use place::Counts;
 
 // ---- lent whole
 
-fn least(x: usize, y: usize) -> usize {
-    if x < y { x } else { y }
+pub fn run_whole(recording: &Recording<'_>, measure: usize, area: &mut [u32]) -> Answer {
+    calls::whole(recording.boards, measure, recording.words, area)
 }
 
-// An outcome within the bounds: 4(m - 1) compositions and 2m tests at most; under measures 3 and 4, 3(m - 1) and exactly m.
-fn bounded(got: Outcome, measure: usize, m: usize) -> Outcome
+// What the second implementation answers of a whole run.
+fn naive_whole(walk: &Walk<'_>) -> Outcome {
+    if walk.recording.picks == 0 {
+        return Outcome::from(Some(Refusal::NoPick));
+    }
+    compare_walks::naive_answer(walk, walk.whole())
+}
+
+pub fn compare_whole<R: Print>(
+    tally: &mut Tally<'_, R>,
+    recorded: &Recorded<'_, '_>,
+    measure: usize,
+    area: &mut [u32],
+) {
+    let recording = recorded.recording;
+    let got = run_whole(&recording, measure, area);
+    tally.compare(
+        recorded.case,
+        got.into(),
+        naive_whole(&Walk { recording, measure }),
+    );
+}
+
+// The counts within the bounds: 4(m - 1) compositions and 2m tests at most; under measures 3 and 4, 3(m - 1) and exactly m.
+fn bounded(counts: Counts, measure: usize, m: usize) -> Counts
     requires { m ≤ 4096 }
 {
-    if m == 0 {
-        return compare_tallies::refused(8);
+    let compositions = counts.compositions.0;
+    let (compositions, tests) = if measure < 3 {
+        (
+            compositions.min(4 * m.saturating_sub(1)),
+            counts.tests.0.min(2 * m),
+        )
+    } else {
+        (compositions.min(3 * m.saturating_sub(1)), m)
+    };
+    Counts {
+        compositions: Compositions(compositions),
+        tests: Tests(tests),
     }
-    if measure < 3 {
-        return Outcome {
-            compositions: least(got.compositions, 4 * (m - 1)),
-            tests: least(got.tests, 2 * m),
+}
+
+pub fn compare_counts<R: Print>(
+    tally: &mut Tally<'_, R>,
+    recorded: &Recorded<'_, '_>,
+    measure: usize,
+    area: &mut [u32],
+) {
+    let recording = recorded.recording;
+    let got = run_whole(&recording, measure, area);
+    let wanted = match recording.picks {
+        0 => Answer::refused(Refusal::NoPick),
+        m => Answer {
+            counts: bounded(got.counts, measure, m),
             ..got
-        };
-    }
-    Outcome {
-        compositions: least(got.compositions, 3 * (m - 1)),
-        tests: m,
-        ..got
-    }
-}
-
-// What the second implementation answers of a whole run; 8 where there is no pick.
-fn naive_whole(words: &[u32], case: Case) -> Outcome
-    requires { Sized case }
-{
-    if case.picks == 0 {
-        return compare_tallies::refused(8);
-    }
-    let x = naive_walk::whole(words, case.boards, case.picks, case.measure);
-    compare_walks::naive_answer(words, case, x)
-}
-
-fn run_whole(case: Case, words: &[u32], area: &mut [u32]) -> Outcome
-    requires { Held case words.now }
-{
-    let end = case.picks * case.boards;
-    let a = calls::whole(case.boards, case.measure, &words[0..end], area);
-    compare_tallies::answered(a)
-}
-
-fn whole_case(t: Tally, name: &[u8], case: Case, words: &[u32], area: &mut [u32]) -> Tally
-    requires { Held case words.now }
-{
-    let got = run_whole(case, words, area);
-    compare_tallies::compared(t, name, case, got, naive_whole(words, case))
-}
-
-fn counts_case(t: Tally, name: &[u8], case: Case, words: &[u32], area: &mut [u32]) -> Tally
-    requires { Held case words.now }
-{
-    let got = run_whole(case, words, area);
-    compare_tallies::compared(t, name, case, got, bounded(got, case.measure, case.picks))
+        },
+    };
+    tally.compare(recorded.case, got.into(), wanted.into());
 }
 
 // ---- a window length
 
 // What the second implementation answers: yes or no over all windows, with the counts of its walk on numbers. Where that walk answers otherwise there is
 // no one answer.
-fn naive_decision(words: &[u32], case: Case, k: usize) -> Outcome
-    requires { Sized case × ((1 ≤ k) × (k ≤ case.picks)) }
+fn naive_decision(walk: &Walk<'_>, k: usize) -> Outcome
+    requires { (1 ≤ k) × (k ≤ walk.now.recording.picks) }
 {
-    let n = case.boards;
-    let m = case.picks;
-    let yes = naive::all_pass(words, n, m, case.measure, m, k);
-    let x = naive_walk::held(words, n, m, case.measure, k);
+    let yes = walk
+        .recording
+        .all_pass(walk.measure, walk.recording.picks, k);
+    let x = walk.held(k);
     if x.failed == yes {
-        return compare_tallies::not_run();
+        return Outcome::NotRun;
     }
-    compare_tallies::of_decision(yes, x.compositions, x.tests)
+    Outcome::Answered {
+        value: Ok(usize::from(yes)),
+        counts: compare_walks::counts_of(x),
+    }
 }
 
-fn decision_case(
-    t: Tally,
-    name: &[u8],
-    case: Case,
-    words: &[u32],
-    k: usize,
+// Every window length from 1 to the number of picks: no recording here has more than 40.
+pub fn compare_decisions<R: Print>(
+    tally: &mut Tally<'_, R>,
+    recorded: &Recorded<'_, '_>,
+    measure: usize,
     area: &mut [u32],
-) -> Tally
-    requires { Held case words.now × ((1 ≤ k) × (k ≤ case.picks)) }
-{
-    let end = case.picks * case.boards;
-    let d = decision::decide(case.boards, case.measure, &words[0..end], k, area);
-    let got = compare_tallies::decided(d);
-    let wanted = naive_decision(words, case, k);
-    compare_tallies::compared(t, name, compare_tallies::at_part(case, k), got, wanted)
-}
-
-// Every k from 1 to the number of picks: no recording here has more than 40.
-fn decision_cases(t: Tally, name: &[u8], case: Case, words: &[u32], area: &mut [u32]) -> Tally
-    requires { Held case words.now }
-{
-    let end = case.picks + 1;
-    let mut sum = t;
-    for k in 1..end {
-        sum = decision_case(sum, name, case, words, k, area);
+) {
+    let recording = recorded.recording;
+    let walk = Walk { recording, measure };
+    for k in 1..=recording.picks {
+        let got = decision::decide(recording.boards, measure, recording.words, k, area);
+        tally.compare(
+            recorded.case.at_part(k),
+            got.into(),
+            naive_decision(&walk, k),
+        );
     }
-    sum
 }
 
 // ---- the table of reach
 
-// The first row that the two do not have alike; 0 where there is none.
-fn row_apart(words: &[u32], n: usize, m: usize, out: &[u32]) -> usize
-    requires { (n ≤ 32) × (m ≤ 4096) }
-    ensures { result < 32 }
+// The first row that the two do not have alike.
+fn row_apart(recording: &Recording<'_>, table: &[u32]) -> Option<usize>
+    ensures { IfSome result (λ u. u < 32) }
 {
-    for u in 0..n {
-        if compare_cases::word_at(out, u) != naive::reach_word(words, n, m, u) {
-            return u;
-        }
-    }
-    0
+    (0..recording.boards).find(|u| table.get(*u).copied() != Some(recording.reach_word(*u)))
 }
 
 // What the call wrote, against the second implementation, at the row that shows a difference if any does.
-fn row_case(t: Tally, name: &[u8], case: Case, words: &[u32], out: &[u32]) -> Tally
-    requires { Sized case }
-{
-    let u = row_apart(words, case.boards, case.picks, out);
-    let got = compare_tallies::of_word(compare_cases::word_at(out, u));
-    let wanted = compare_tallies::of_word(naive::reach_word(words, case.boards, case.picks, u));
-    compare_tallies::compared(t, name, compare_tallies::at_part(case, u), got, wanted)
+fn compare_rows<R: Print>(tally: &mut Tally<'_, R>, recorded: &Recorded<'_, '_>, table: &[u32]) {
+    let recording = recorded.recording;
+    let u = row_apart(&recording, table).unwrap_or(0);
+    let got = table.get(u).map_or(0, |word| *word as usize);
+    let wanted = recording.reach_word(u) as usize;
+    tally.compare(
+        recorded.case.at_part(u),
+        Outcome::from(Ok(got)),
+        Outcome::from(Ok(wanted)),
+    );
 }
 
-fn table_case(t: Tally, name: &[u8], case: Case, words: &[u32], out: &mut [u32]) -> Tally
-    requires { Held case words.now }
-{
-    let end = case.picks * case.boards;
-    let got = compare_tallies::tabled(reach::table(case.boards, &words[0..end], out));
-    if case.picks == 0 {
-        return compare_tallies::compared(t, name, case, got, compare_tallies::refused(8));
-    }
-    if got.refusal != 0 {
-        return compare_tallies::compared(t, name, case, got, compare_tallies::refused(0));
-    }
-    row_case(t, name, case, words, out)
-}
-
-// ---- all of it
-
-// The case; with no boards and no picks where its recording is too large or the words do not hold it.
-fn held(case: Case, words: &[u32]) -> Case
-    ensures { Held result words.now }
-{
-    let none = Case {
-        boards: 0,
-        picks: 0,
-        ..case
-    };
-    if MOST_BOARDS < case.boards {
-        return none;
-    }
-    if MOST_PICKS < case.picks {
-        return none;
-    }
-    if words.len() < case.picks * case.boards {
-        return none;
-    }
-    case
-}
-
-// What a whole run answers of the recording of a case; refused, where the words do not hold it.
-pub fn whole_of(case: Case, words: &[u32], area: &mut [u32]) -> Outcome {
-    let c = held(case, words);
-    run_whole(c, words, area)
-}
-
-// The cases of one kind: one, or one for each pick, window length or step of saving.
-pub fn run(
-    kind: Kind,
-    t: Tally,
-    name: &[u8],
-    case: Case,
-    words: &[u32],
-    area: &mut [u32],
-) -> Tally {
-    let c = held(case, words);
-    if c.boards == 0 {
-        return compare_tallies::compared(
-            t,
-            name,
-            case,
-            compare_tallies::not_run(),
-            compare_tallies::refused(0),
-        );
-    }
-    match kind {
-        Kind::Whole => whole_case(t, name, c, words, area),
-        Kind::Picks => compare_walks::pick_cases(t, name, c, words, area),
-        Kind::Counts => counts_case(t, name, c, words, area),
-        Kind::Decisions => decision_cases(t, name, c, words, area),
-        Kind::Tables => table_case(t, name, c, words, area),
-        Kind::Saves => compare_saves::save_cases(t, name, c, words, area),
+pub fn compare_table<R: Print>(
+    tally: &mut Tally<'_, R>,
+    recorded: &Recorded<'_, '_>,
+    out: &mut [u32],
+) {
+    let recording = recorded.recording;
+    let wanted = (recording.picks == 0).then_some(Refusal::NoPick);
+    let refusal = reach::table(recording.boards, recording.words, out).err();
+    if refusal.or(wanted).is_some() {
+        tally.compare(recorded.case, refusal.into(), wanted.into());
+    } else {
+        compare_rows(tally, recorded, out);
     }
 }

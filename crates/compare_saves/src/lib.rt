@@ -1,169 +1,103 @@
 // The recording of a case, saved as a file, against the file of the second implementation; then read back, and saved again.
 #![tactic(auto)]
 
-ghost use Rattle.std.specs.Prelude.{◌≤◌};
-ghost use Rattle.compare_tallies.specs.Held.{Sized, Held};
+ghost use Rattle.std.specs.Prelude.{◌≡◌, length};
 
-use compare_tallies::{Case, Outcome, Tally};
-use recording::Reading;
-use saving::Saving;
+use compare_cases::{MARK, Recorded};
+use compare_tallies::{Outcome, Tally};
+use model::Refusal;
+use naive::Recording;
+
+// ---- outputs of bytes
+
+// Room for the file of every case: nine picks over 32 boards have at most 26,796 bytes, and no generated recording is larger.
+const BYTES: usize = 32768;
+
+// Stands in every byte before a call, so that a byte that was written shows. No file has such a byte.
+const BYTE_MARK: u8 = 0xA5;
+
+// An output that nothing was written to. The `ensures` is what lending it as a slice needs.
+pub fn marked() -> [u8; BYTES]
+    ensures { 32768 ≡ length result }
+{
+    [BYTE_MARK; BYTES]
+}
 
 // ---- the calls
 
-fn saved(s: Saving) -> Outcome {
-    match s {
-        Saving::Written(k) => compare_tallies::of_size(k),
-        Saving::Refused(r) => compare_tallies::refused(model::number_of(r)),
-    }
-}
-
-// What the call answers that is lent the first bytes of the output. Afterwards all of its bytes must be the wanted ones, those behind too; where one is
-// not, the value is 1, which is no file's size.
+// What the call answers that is lent the first bytes of the output. Afterwards all of its bytes must be the wanted ones, those behind too.
 pub fn saved_as(n: usize, words: &[u32], room: usize, out: &mut [u8], wanted: &[u8]) -> Outcome {
     if out.len() < room {
-        return compare_tallies::not_run();
+        return Outcome::NotRun;
     }
-    compare_bytes::mark(out);
-    let o = saved(saving::save(n, words, &mut out[0..room]));
-    if compare_bytes::is_same(out, wanted) {
-        return o;
-    }
-    compare_tallies::changed(o.refusal)
-}
-
-// The least limit that lets the picks through.
-fn limit_for(picks: usize) -> usize
-    requires { picks ≤ 4096 }
-    ensures { result ≤ 4096 }
-{
-    if picks == 0 { 1 } else { picks }
-}
-
-// A recording that was read is the one that was saved: its boards, its picks, and every word.
-fn returned(case: Case, r: Reading, same_words: bool) -> Outcome {
-    match r {
-        Reading::Read { boards, picks } => {
-            if (boards == case.boards) & (picks == case.picks) & same_words {
-                return compare_tallies::refused(0);
-            }
-            compare_tallies::changed(0)
-        }
-        Reading::Refused(c) => compare_tallies::refused(model::number_of(c)),
+    out.fill(BYTE_MARK);
+    let saved = match saving::save(n, words, &mut out[..room]) {
+        saving::Saving::Written(k) => Ok(k),
+        saving::Saving::Refused(r) => Err(r),
+    };
+    if *out == *wanted {
+        saved.into()
+    } else {
+        Outcome::Changed(saved.err())
     }
 }
 
-// Reads the first bytes, with the least limit and the least room.
-fn read_back(case: Case, words: &[u32], bytes: &[u8], size: usize, area: &mut [u32]) -> Outcome
-    requires { Sized case }
-{
-    let limit = limit_for(case.picks);
-    let room = limit * case.boards;
-    if bytes.len() < size {
-        return compare_tallies::not_run();
-    }
+// Reads a file, with the least limit that lets the picks through and the least room. It must be the recording that was saved: its boards, its picks, and
+// every word.
+fn read_back(recording: &Recording<'_>, file: &[u8], area: &mut [u32]) -> Outcome {
+    let limit = recording.picks.max(1);
+    let room = limit * recording.boards;
     if area.len() < room {
-        return compare_tallies::not_run();
+        return Outcome::NotRun;
     }
-    compare_cases::mark(area);
-    let r = recording::read(&bytes[0..size], limit, &mut area[0..room]);
-    returned(case, r, compare_cases::is_copy(area, words))
+    area.fill(MARK);
+    match recording::read(file, limit, &mut area[..room]) {
+        Ok(read) => {
+            if read.boards == recording.boards
+                && read.picks == recording.picks
+                && area.starts_with(recording.words)
+            {
+                return Outcome::from(None);
+            }
+            Outcome::Changed(None)
+        }
+        Err(cause) => Outcome::from(Some(cause)),
+    }
 }
 
-// ---- the cases of a recording, by the number of their step
-
-fn save_case(
-    t: Tally,
-    name: &[u8],
-    case: Case,
-    words: &[u32],
-    room: usize,
-    out: &mut [u8],
-    wanted: &[u8],
-    answer: Outcome,
-) -> Tally {
-    let got = saved_as(case.boards, words, room, out, wanted);
-    compare_tallies::compared(t, name, case, got, answer)
-}
-
-// Into a byte less than needed: refused, and no byte changed.
-fn short_case(
-    t: Tally,
-    name: &[u8],
-    case: Case,
-    words: &[u32],
-    size: usize,
-    out: &mut [u8],
-) -> Tally {
-    let none = compare_bytes::marked();
-    let less = std::num::wrapping_sub_usize(size, 1);
-    let answer = compare_tallies::refused(18);
-    save_case(t, name, case, words, less, out, &none, answer)
-}
-
-// 1, into more room than needed; 2, into a byte less; 3, into exactly the room needed. The output ends with the file.
-fn output_cases(
-    t: Tally,
-    name: &[u8],
-    case: Case,
-    words: &[u32],
-    size: usize,
-    out: &mut [u8],
-    wanted: &[u8],
-) -> Tally {
-    let longer = compare_tallies::at_part(case, 1);
-    let short = compare_tallies::at_part(case, 2);
-    let exact = compare_tallies::at_part(case, 3);
-    let written = compare_tallies::of_size(size);
-    let all = out.len();
-    let t1 = save_case(t, name, longer, words, all, out, wanted, written);
-    let t2 = short_case(t1, name, short, words, size, out);
-    save_case(t2, name, exact, words, size, out, wanted, written)
-}
-
-fn read_case(
-    t: Tally,
-    name: &[u8],
-    case: Case,
-    words: &[u32],
-    bytes: &[u8],
-    size: usize,
+// By their steps: 1, into more room than needed; 2, into a byte less; 3, into exactly the room needed, so that the output ends with the file; 4, the file
+// read back; 5, what was read saved again, which is the same file.
+pub fn compare_saves<R: Print>(
+    tally: &mut Tally<'_, R>,
+    recorded: &Recorded<'_, '_>,
     area: &mut [u32],
-) -> Tally
-    requires { Sized case }
-{
-    let got = read_back(case, words, bytes, size, area);
-    let step = compare_tallies::at_part(case, 4);
-    compare_tallies::compared(t, name, step, got, compare_tallies::refused(0))
-}
-
-// The first words, which were read, saved again.
-fn again_case(
-    t: Tally,
-    name: &[u8],
-    case: Case,
-    words: &[u32],
-    end: usize,
-    size: usize,
-    out: &mut [u8],
-    wanted: &[u8],
-) -> Tally {
-    let written = compare_tallies::of_size(size);
-    if words.len() < end {
-        return compare_tallies::compared(t, name, case, compare_tallies::not_run(), written);
-    }
-    save_case(t, name, case, &words[0..end], size, out, wanted, written)
-}
-
-// The three above; 4, the file read back; 5, what was read saved again, which is the same file.
-pub fn save_cases(t: Tally, name: &[u8], case: Case, words: &[u32], area: &mut [u32]) -> Tally
-    requires { Held case words.now }
-{
-    let end = case.picks * case.boards;
-    let again = compare_tallies::at_part(case, 5);
-    let mut wanted = compare_bytes::marked();
-    let size = naive_file::write(&mut wanted, words, case.boards, case.picks);
-    let mut out = compare_bytes::marked();
-    let t1 = output_cases(t, name, case, &words[0..end], size, &mut out, &wanted);
-    let t2 = read_case(t1, name, case, &words[0..end], &out, size, area);
-    again_case(t2, name, again, area, end, size, &mut out, &wanted)
+) {
+    let case = recorded.case;
+    let recording = recorded.recording;
+    let n = recording.boards;
+    let words = recording.words;
+    let mut wanted = marked();
+    let size = naive_file::write(&mut wanted, &recording);
+    let written = Outcome::from(Ok(size));
+    let mut out = marked();
+    let longer = saved_as(n, words, BYTES, &mut out, &wanted);
+    tally.compare(case.at_part(1), longer, written);
+    let short = saved_as(n, words, size.saturating_sub(1), &mut out, &marked());
+    tally.compare(
+        case.at_part(2),
+        short,
+        Outcome::from(Some(Refusal::FileRoom)),
+    );
+    let exact = saved_as(n, words, size, &mut out, &wanted);
+    tally.compare(case.at_part(3), exact, written);
+    let read = match out.get(..size) {
+        Some(file) => read_back(&recording, file, area),
+        None => Outcome::NotRun,
+    };
+    tally.compare(case.at_part(4), read, Outcome::from(None));
+    let again = match area.get(..words.len()) {
+        Some(found) => saved_as(n, found, size, &mut out, &wanted),
+        None => Outcome::NotRun,
+    };
+    tally.compare(case.at_part(5), again, written);
 }

@@ -1,2 +1,3 @@
 -- Definitions that the contracts of `naive_walk` cite.
-pub mod Ranges
+pub mod Bounds
+pub mod Room

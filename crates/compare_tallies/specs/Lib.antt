@@ -1,2 +1,0 @@
--- Definitions that the contracts of `compare_walks` and `compare_runs` cite.
-pub mod Held

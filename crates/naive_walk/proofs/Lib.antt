@@ -1,2 +1,0 @@
--- What the proofs of `naive_walk` share.
-pub mod Behind
