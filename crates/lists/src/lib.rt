@@ -25,9 +25,8 @@ pub fn any_of(words: &[u32], n: usize) -> u32
 }
 
 // Sets the words of out to zero. `fill(0)` costs some 13 instructions more a call.
-pub fn zero_over(out: &mut [u32], n: usize)
-    requires { n ≡ length out.old }
-    ensures { out.new ≡ zeros n }
+pub fn zero_over(out: &mut [u32])
+    ensures { out.new ≡ zeros (length out.old) }
 {
     for word in out.iter_mut() {
         *word = 0;
