@@ -188,7 +188,7 @@ fn join_tables(t: &mut [u32], right: &[u32], n: usize)
     requires { (n ≤ 32) × ((n ≡ length t.old) × (n ≡ length right.now)) }
     ensures { t.new ≡ compose n t.old right.now }
 {
-    let later = lists::load(right, n);
+    let later = lists::load(right);
     let ts = tables(&later);
     join_rows(t, &ts);
 }
@@ -213,7 +213,7 @@ pub fn join_over(t: &mut [u32], right: &[u32], n: usize)
     ensures { t.new ≡ compose n t.old right.now }
 {
     if filled(right, n) <= 8 {
-        let before = lists::load(t, n);
+        let before = lists::load(t);
         join_columns(t, &before[..n], right, n);
     } else {
         join_tables(t, right, n);
@@ -241,7 +241,7 @@ pub fn joins_full(left: &[u32], right: &[u32], n: usize) -> bool
     requires { (n ≤ 32) × ((n ≤ length left.now) × (n ≡ length right.now)) }
     ensures { result ≡ full n (compose n left.now right.now) }
 {
-    let later = lists::load(right, n);
+    let later = lists::load(right);
     let ts = tables(&later);
     are_full(left, &ts, n)
 }
@@ -327,7 +327,7 @@ pub fn closed_words(words: &[u32], n: usize) -> [u32; 32]
     requires { (n ≤ 32) × (n ≡ length words.now) }
     ensures { result ≡ splice 0 n (within n most_links words.now) (zeros 32) }
 {
-    let mut t = lists::load(words, n);
+    let mut t = lists::load(words);
     close(&mut t[..n], n);
     t
 }
