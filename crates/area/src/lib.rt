@@ -38,7 +38,7 @@ fn compose_with(area: &mut [u32], words: &[u32], measure: usize, n: usize, d: us
 {
     let e = width(measure, n);
     let at = (d - 1) * e;
-    measures::compose_words(&mut area[at..at + n], words, measure, n);
+    measures::compose_words(&mut area[at..at + n], words, measure);
 }
 
 // Composes the table of part d onto itself, from a copy: no part is lent twice.
@@ -117,7 +117,7 @@ pub fn zero_part(area: &mut [u32], measure: usize, n: usize, d: usize)
 {
     let e = width(measure, n);
     let at = (d - 1) * e;
-    lists::zero_over(&mut area[at..at + e], e);
+    lists::zero_over(&mut area[at..at + e]);
 }
 
 // The pick's own table becomes that of the part of the pick's number.
@@ -189,5 +189,5 @@ pub fn zero_first(area: &mut [u32], k: usize)
     requires { k ≤ length area.old }
     ensures { area.new ≡ zeroed k area.old }
 {
-    lists::zero_over(&mut area[0..k], k);
+    lists::zero_over(&mut area[0..k]);
 }

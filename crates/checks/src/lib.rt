@@ -62,7 +62,7 @@ fn all_open(n: usize) -> [u32; 32]
 {
     let row = allowed_bits(n);
     let mut rows = lists::zeroed();
-    links::fill_rows(&mut rows[..n], row, n);
+    links::fill_rows(&mut rows[..n], row);
     rows
 }
 

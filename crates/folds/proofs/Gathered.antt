@@ -75,12 +75,12 @@ module _ {late : Bool} {n : ℕ} {t : List ℕ} {set : ℕ} {row₀ out : List �
   folded_less w n32 b = without_less rest w (lt_of_lt_of_le (folded_below w b) n32) b
 
   pub folded_next : (w : ℕ) {xs : List ℕ} {left : ℕ} → n ≤ 32 → T (bit rest w) → left ≡ without rest w
-      → xs ≡ tab (each (better late) out (take (w * n + n - w * n) (drop (w * n) t))) n → Folded late n t set row₀ xs left
+      → xs ≡ tab (each (better late) out (take (w * n + n - w * n) (drop (w * n) t))) (length out) → Folded late n t set row₀ xs left
   unfolding with_fold
   folded_next w {xs} {left} n32 b l e = record {
-    size = sym (ap length e ∙ length-tab _ n);
+    size = m.size ∙ sym (ap length e ∙ length-tab _ _);
     small = subst (λ (x : ℕ). x < 2 ^ n) (sym l) (without_lt n rest w m.small);
-    made = λ v h. rw (l, e, get_or-tab (each (better late) out (take (w * n + n - w * n) (drop (w * n) t))) n v h, row_cell n w t v h)
+    made = λ v h. rw (l, e, get_or-tab (each (better late) out (take (w * n + n - w * n) (drop (w * n) t))) (length out) v (rw (← m.size) h), row_cell n w t v h)
         (better_assoc late _ _ _ ∙ ap (better late (get_or out v 0)) (sym (gather_out late n t rest w v n (folded_below w b) n32 b)) ∙ m.made v h);
   }
 

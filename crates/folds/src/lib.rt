@@ -50,9 +50,9 @@ impl Best for Latest {
 
 // The words of row join those of out.
 #[tactic(auto, using(lists::proofs::Tab::made_all))]
-fn fold<B: Best>(out: &mut [u32], row: &[u32], n: usize)
-    requires { (n ≡ length out.old) × (n ≡ length row.now) }
-    ensures { out.new ≡ tab (each (better B.late) out.old row.now) n }
+fn fold<B: Best>(out: &mut [u32], row: &[u32])
+    requires { length out.old ≤ length row.now }
+    ensures { out.new ≡ tab (each (better B.late) out.old row.now) (length out.old) }
 {
     for (v, x) in out.iter_mut().enumerate() {
         *x = B::best(*x, row[v]);
@@ -71,7 +71,7 @@ fn fold_set<B: Best>(out: &mut [u32], later: &[u32], n: usize, set: u32)
     while rest != 0 {
         let w = links::board_in(rest);
         let at = w * n;
-        fold::<B>(out, &later[at..at + n], n);
+        fold::<B>(out, &later[at..at + n]);
         rest = links::cleared(rest, Board(w));
     }
 }
@@ -83,7 +83,7 @@ fn fold_row<B: Best>(out: &mut [u32], later: &[u32], n: usize, set: u32)
     ensures { out.new ≡ tab (gather B.late n later.now set n) n }
 {
     if set == 0 {
-        lists::zero_over(out, n);
+        lists::zero_over(out);
     } else {
         let w = links::board_in(set);
         let at = w * n;
@@ -131,12 +131,12 @@ fn fold_rows<B: Best>(folds: &mut [u32], later: &[u32], sets: &[u32], n: usize)
 
 // A row takes in its fold, and has no time for the board itself.
 #[tactic(auto, using(times::proofs::Rows::row_last))]
-fn take_fold<B: Best>(row: &mut [u32], joined: &[u32], n: usize, own: Board)
-    requires { (own.0 < n) × ((n ≡ length row.old) × (n ≡ length joined.now)) }
-    ensures { row.new ≡ tab (joined_row B.late (λ v. slice_index row.old v) (λ v. slice_index joined.now v) own.0) n }
+fn take_fold<B: Best>(row: &mut [u32], joined: &[u32], own: Board)
+    requires { (own.0 < length row.old) × (length row.old ≤ length joined.now) }
+    ensures { row.new ≡ tab (joined_row B.late (λ v. slice_index row.old v) (λ v. slice_index joined.now v) own.0) (length row.old) }
 {
     let u = own.0;
-    fold::<B>(row, joined, n);
+    fold::<B>(row, joined);
     row[u] = 0;
 }
 
@@ -147,7 +147,7 @@ fn fold_over<B: Best>(half: &mut [u32], folds: &[u32], n: usize)
 {
     for u in 0..n {
         let at = u * n;
-        take_fold::<B>(&mut half[at..at + n], &folds[at..at + n], n, Board(u));
+        take_fold::<B>(&mut half[at..at + n], &folds[at..at + n], Board(u));
     }
 }
 

@@ -14,9 +14,9 @@ use model::Board;
 
 // The bits of the boards' own links are cleared.
 #[tactic(auto, using(lists::proofs::Tab::made_all), unfolding(crate::specs::Warshall::clear_row))]
-fn clear_own(t: &mut [u32], n: usize)
-    requires { (n ≤ 32) × (n ≡ length t.old) }
-    ensures { t.new ≡ tab (clear_row t.old) n }
+fn clear_own(t: &mut [u32])
+    requires { length t.old ≤ 32 }
+    ensures { t.new ≡ tab (clear_row t.old) (length t.old) }
 {
     for (u, row) in t.iter_mut().enumerate() {
         *row = links::cleared(*row, Board(u));
@@ -27,9 +27,9 @@ fn clear_own(t: &mut [u32], n: usize)
 
 // A column: `row`, what board b reaches in the later part, goes to every board that reaches b in the earlier one.
 #[tactic(auto, using(crate::proofs::Rows::columns), unfolding(crate::specs::Columns::column_row, model::specs::Recording::link, model::specs::Recording::bit))]
-fn add_column(out: &mut [u32], left: &[u32], row: u32, b: Board, n: usize)
-    requires { (b.0 < 32) × ((n ≡ length out.old) × (n ≤ length left.now)) }
-    ensures { out.new ≡ tab (column_row out.old left.now row b.0) n }
+fn add_column(out: &mut [u32], left: &[u32], row: u32, b: Board)
+    requires { (b.0 < 32) × (length out.old ≤ length left.now) }
+    ensures { out.new ≡ tab (column_row out.old left.now row b.0) (length out.old) }
 {
     if row == 0 {
         return;
@@ -42,9 +42,9 @@ fn add_column(out: &mut [u32], left: &[u32], row: u32, b: Board, n: usize)
 
 // The columns of b and the three boards after it: four at once, so that each word of out is read and written once for them.
 #[tactic(auto, using(crate::proofs::Rows::fours), unfolding(crate::specs::Columns::four_row, model::specs::Recording::link, model::specs::Recording::bit))]
-fn add_four(out: &mut [u32], left: &[u32], right: &[u32], b: Board, n: usize)
-    requires { (n ≤ 32) × ((b.0 + 4 ≤ n) × ((n ≡ length out.old) × ((n ≤ length left.now) × (n ≤ length right.now)))) }
-    ensures { out.new ≡ tab (four_row out.old left.now right.now b.0) n }
+fn add_four(out: &mut [u32], left: &[u32], right: &[u32], b: Board)
+    requires { (b.0 + 4 ≤ 32) × ((length out.old ≤ length left.now) × (b.0 + 4 ≤ length right.now)) }
+    ensures { out.new ≡ tab (four_row out.old left.now right.now b.0) (length out.old) }
 {
     let w = b.0;
     let first = right[w];
@@ -73,7 +73,7 @@ fn add_fours(out: &mut [u32], left: &[u32], right: &[u32], n: usize) -> usize
     let mut w = 0;
     // By hand: a `for` over the fours costs 2 per cent more instructions.
     while w + 4 <= n {
-        add_four(out, left, right, Board(w), n);
+        add_four(out, left, right, Board(w));
         w += 4;
     }
     w
@@ -88,7 +88,7 @@ fn add_columns(out: &mut [u32], left: &[u32], right: &[u32], n: usize)
     let from = add_fours(out, left, right, n);
     // By number: the rest of a slice would count from 0 again.
     for w in from..n {
-        add_column(out, left, right[w], Board(w), n);
+        add_column(out, left, right[w], Board(w));
     }
 }
 
@@ -98,9 +98,9 @@ fn join_columns(out: &mut [u32], left: &[u32], right: &[u32], n: usize)
     requires { (n ≤ 32) × ((n ≡ length out.old) × ((n ≤ length left.now) × (n ≤ length right.now))) }
     ensures { out.new ≡ compose n left.now right.now }
 {
-    links::unite(out, left, right, n);
+    links::unite(out, left, right);
     add_columns(out, left, right, n);
-    clear_own(out, n);
+    clear_own(out);
 }
 
 // The unions of rows k to k + 3: entry i has the union of those that i has the bit of, so that four boards of a row cost one look-up.
@@ -173,9 +173,9 @@ fn through(x: u32, b: Board, ts: &[[u32; 16]; 8]) -> u32
 
 // The rows of the composition, each from its own word alone, and so in place.
 #[tactic(auto, using(lists::proofs::Tab::made_all), unfolding(crate::specs::LookUps::looked_row))]
-fn join_rows(t: &mut [u32], ts: &[[u32; 16]; 8], n: usize)
-    requires { (n ≤ 32) × (n ≡ length t.old) }
-    ensures { t.new ≡ tab (looked_row ts.now t.old) n }
+fn join_rows(t: &mut [u32], ts: &[[u32; 16]; 8])
+    requires { length t.old ≤ 32 }
+    ensures { t.new ≡ tab (looked_row ts.now t.old) (length t.old) }
 {
     for (u, row) in t.iter_mut().enumerate() {
         *row = links::cleared(through(*row, Board(u), ts), Board(u));
@@ -188,9 +188,9 @@ fn join_tables(t: &mut [u32], right: &[u32], n: usize)
     requires { (n ≤ 32) × ((n ≡ length t.old) × (n ≡ length right.now)) }
     ensures { t.new ≡ compose n t.old right.now }
 {
-    let later = lists::load(right, n);
+    let later = lists::load(right);
     let ts = tables(&later);
-    join_rows(t, &ts, n);
+    join_rows(t, &ts);
 }
 
 // How many rows have links.
@@ -213,7 +213,7 @@ pub fn join_over(t: &mut [u32], right: &[u32], n: usize)
     ensures { t.new ≡ compose n t.old right.now }
 {
     if filled(right, n) <= 8 {
-        let before = lists::load(t, n);
+        let before = lists::load(t);
         join_columns(t, &before[..n], right, n);
     } else {
         join_tables(t, right, n);
@@ -241,7 +241,7 @@ pub fn joins_full(left: &[u32], right: &[u32], n: usize) -> bool
     requires { (n ≤ 32) × ((n ≤ length left.now) × (n ≡ length right.now)) }
     ensures { result ≡ full n (compose n left.now right.now) }
 {
-    let later = lists::load(right, n);
+    let later = lists::load(right);
     let ts = tables(&later);
     are_full(left, &ts, n)
 }
@@ -250,9 +250,9 @@ pub fn joins_full(left: &[u32], right: &[u32], n: usize) -> bool
 
 // Each row that links to b takes in b's row.
 #[tactic(auto, using(crate::proofs::Rows::columns), unfolding(crate::specs::Columns::column_row, model::specs::Recording::link, model::specs::Recording::bit))]
-fn pass_over(t: &mut [u32], b: Board, n: usize)
-    requires { (n ≤ 32) × ((b.0 < n) × (n ≡ length t.old)) }
-    ensures { t.new ≡ pass n t.old b.0 }
+fn pass_over(t: &mut [u32], b: Board)
+    requires { (length t.old ≤ 32) × (b.0 < length t.old) }
+    ensures { t.new ≡ pass (length t.old) t.old b.0 }
 {
     let w = b.0;
     let row = t[w];
@@ -266,12 +266,12 @@ fn pass_over(t: &mut [u32], b: Board, n: usize)
 
 // The same; where no row links to b it is left out.
 #[tactic(auto, using(crate::proofs::Closure::no_pass))]
-fn pass_if(t: &mut [u32], into: u32, b: Board, n: usize)
-    requires { (n ≤ 32) × ((b.0 < n) × ((n ≡ length t.old) × Into n t.old into)) }
-    ensures { t.new ≡ pass n t.old b.0 }
+fn pass_if(t: &mut [u32], into: u32, b: Board)
+    requires { (length t.old ≤ 32) × ((b.0 < length t.old) × Into (length t.old) t.old into) }
+    ensures { t.new ≡ pass (length t.old) t.old b.0 }
 {
     if links::linked(into, b) {
-        pass_over(t, b, n);
+        pass_over(t, b);
     }
 }
 
@@ -283,7 +283,7 @@ fn pass_over_all(t: &mut [u32], n: usize)
 {
     let into = lists::any_of(t, n);
     for w in 0..n {
-        pass_if(t, into, Board(w), n);
+        pass_if(t, into, Board(w));
     }
 }
 
@@ -294,7 +294,7 @@ fn close_by_passes(t: &mut [u32], n: usize)
     ensures { t.new ≡ within n most_links t.old }
 {
     pass_over_all(t, n);
-    clear_own(t, n);
+    clear_own(t);
 }
 
 // The pairs joined within one pick. Where links lead from every board to every other, each gets to all boards that some link leads to: two
@@ -306,7 +306,7 @@ fn close(t: &mut [u32], n: usize)
 {
     if searches::is_connected(t, n) {
         let boards = lists::any_of(t, n);
-        links::fill_rows(t, boards, n);
+        links::fill_rows(t, boards);
     } else {
         close_by_passes(t, n);
     }
@@ -327,7 +327,7 @@ pub fn closed_words(words: &[u32], n: usize) -> [u32; 32]
     requires { (n ≤ 32) × (n ≡ length words.now) }
     ensures { result ≡ splice 0 n (within n most_links words.now) (zeros 32) }
 {
-    let mut t = lists::load(words, n);
+    let mut t = lists::load(words);
     close(&mut t[..n], n);
     t
 }

@@ -52,9 +52,9 @@ pub fn low_bits(n: usize) -> u32
 
 // Every row of out becomes the same boards, but for its own bit.
 #[tactic(auto, using(lists::proofs::Tab::made_all))]
-pub fn fill_rows(out: &mut [u32], boards: u32, n: usize)
-    requires { (n ≤ 32) × (n ≡ length out.old) }
-    ensures { out.new ≡ tab (without boards) n }
+pub fn fill_rows(out: &mut [u32], boards: u32)
+    requires { length out.old ≤ 32 }
+    ensures { out.new ≡ tab (without boards) (length out.old) }
 {
     for (u, row) in out.iter_mut().enumerate() {
         *row = cleared(boards, Board(u));
@@ -65,9 +65,9 @@ pub fn fill_rows(out: &mut [u32], boards: u32, n: usize)
 
 // The links open in either.
 #[tactic(auto, using(lists::proofs::Tab::made_all), unfolding(crate::specs::Tables::either_row, crate::specs::Tables::union))]
-pub fn unite(out: &mut [u32], left: &[u32], right: &[u32], n: usize)
-    requires { (n ≡ length out.old) × ((n ≤ length left.now) × (n ≤ length right.now)) }
-    ensures { out.new ≡ union n left.now right.now }
+pub fn unite(out: &mut [u32], left: &[u32], right: &[u32])
+    requires { (length out.old ≤ length left.now) × (length out.old ≤ length right.now) }
+    ensures { out.new ≡ union (length out.old) left.now right.now }
 {
     for (u, row) in out.iter_mut().enumerate() {
         *row = left[u] | right[u];
@@ -76,9 +76,9 @@ pub fn unite(out: &mut [u32], left: &[u32], right: &[u32], n: usize)
 
 // The links of `right` join those of t.
 #[tactic(auto, using(lists::proofs::Tab::made_all), unfolding(crate::specs::Tables::either_row, crate::specs::Tables::union))]
-pub fn unite_into(t: &mut [u32], right: &[u32], n: usize)
-    requires { (n ≡ length t.old) × (n ≤ length right.now) }
-    ensures { t.new ≡ union n t.old right.now }
+pub fn unite_into(t: &mut [u32], right: &[u32])
+    requires { length t.old ≤ length right.now }
+    ensures { t.new ≡ union (length t.old) t.old right.now }
 {
     for (u, row) in t.iter_mut().enumerate() {
         *row |= right[u];
@@ -95,7 +95,7 @@ pub fn unite_picks(out: &mut [u32], words: &[u32], n: usize, from: usize, m: usi
     // By number: `chunks_exact` wants n above 0.
     for k in from..m {
         let at = k * n;
-        unite_into(out, &words[at..at + n], n);
+        unite_into(out, &words[at..at + n]);
         made += 1;
     }
     made
@@ -103,9 +103,9 @@ pub fn unite_picks(out: &mut [u32], words: &[u32], n: usize, from: usize, m: usi
 
 // Of the links of t, those stay that `right` has too. The loop of `unite_into` again: one with the operation passed in would be longer than both.
 #[tactic(auto, using(lists::proofs::Tab::made_all), unfolding(crate::specs::Tables::both_row, crate::specs::Tables::intersection))]
-pub fn intersect_into(t: &mut [u32], right: &[u32], n: usize)
-    requires { (n ≡ length t.old) × (n ≤ length right.now) }
-    ensures { t.new ≡ intersection n t.old right.now }
+pub fn intersect_into(t: &mut [u32], right: &[u32])
+    requires { length t.old ≤ length right.now }
+    ensures { t.new ≡ intersection (length t.old) t.old right.now }
 {
     for (u, row) in t.iter_mut().enumerate() {
         *row &= right[u];

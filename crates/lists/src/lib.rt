@@ -25,9 +25,8 @@ pub fn any_of(words: &[u32], n: usize) -> u32
 }
 
 // Sets the words of out to zero. `fill(0)` costs some 13 instructions more a call.
-pub fn zero_over(out: &mut [u32], n: usize)
-    requires { n ≡ length out.old }
-    ensures { out.new ≡ zeros n }
+pub fn zero_over(out: &mut [u32])
+    ensures { out.new ≡ zeros (length out.old) }
 {
     for word in out.iter_mut() {
         *word = 0;
@@ -42,13 +41,13 @@ pub fn zeroed<const N: usize>() -> [u32; N]
     [0; N]
 }
 
-// The n words of xs by value, and zeros up to 32.
+// The words of xs by value, and zeros up to 32.
 #[tactic(auto, unfolding(crate::specs::Tab::splice))]
-pub fn load(xs: &[u32], n: usize) -> [u32; 32]
-    requires { (n ≤ 32) × (n ≡ length xs.now) }
-    ensures { result ≡ splice 0 n xs.now (zeros 32) }
+pub fn load(xs: &[u32]) -> [u32; 32]
+    requires { length xs.now ≤ 32 }
+    ensures { result ≡ splice 0 (length xs.now) xs.now (zeros 32) }
 {
     let mut out = zeroed();
-    out[..n].copy_from_slice(xs);
+    out[..xs.len()].copy_from_slice(xs);
     out
 }

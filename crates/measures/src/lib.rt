@@ -19,14 +19,14 @@ pub fn size(measure: usize, n: usize) -> usize
 
 // Composes right, the later table, onto t, the earlier: for the measures whose tables compose word by word, which are 1 and 2.
 #[tactic(auto, unfolding(crate::specs::Kit::join_of))]
-pub fn compose_words(t: &mut [u32], right: &[u32], measure: usize, n: usize)
-    requires { (measure ≢ 4) × (measure ≢ 3) × (n ≡ length t.old) × (n ≤ length right.now) }
-    ensures { t.new ≡ join_of measure n t.old right.now }
+pub fn compose_words(t: &mut [u32], right: &[u32], measure: usize)
+    requires { (measure ≢ 4) × (measure ≢ 3) × (length t.old ≤ length right.now) }
+    ensures { t.new ≡ join_of measure (length t.old) t.old right.now }
 {
     if measure == 2 {
-        links::unite_into(t, right, n);
+        links::unite_into(t, right);
     } else {
-        links::intersect_into(t, right, n);
+        links::intersect_into(t, right);
     }
 }
 
@@ -40,7 +40,7 @@ pub fn compose(t: &mut [u32], right: &[u32], measure: usize, n: usize)
     match measure {
         4 => folds::compose_over(t, right, n),
         3 => joins::join_over(t, right, n),
-        _ => compose_words(t, right, measure, n),
+        _ => compose_words(t, right, measure),
     }
 }
 

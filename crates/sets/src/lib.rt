@@ -72,9 +72,9 @@ pub fn write(sets: &mut [u32], half: &[u32], n: usize, some: u32)
 
 // Board b goes into the set of each board at which its row has a time.
 #[tactic(auto, using(lists::proofs::Tab::made_all), unfolding(crate::specs::Marks::marked_row))]
-fn add_marks(sets: &mut [u32], row: &[u32], n: usize, b: Board)
-    requires { (b.0 < 32) × ((n ≡ length sets.old) × (n ≤ length row.now)) }
-    ensures { sets.new ≡ tab (marked_row sets.old (λ v. get_or row.now v 0) b.0) n }
+fn add_marks(sets: &mut [u32], row: &[u32], b: Board)
+    requires { (b.0 < 32) × (length sets.old ≤ length row.now) }
+    ensures { sets.new ≡ tab (marked_row sets.old (λ v. get_or row.now v 0) b.0) (length sets.old) }
 {
     for (v, set) in sets.iter_mut().enumerate() {
         *set |= mark_of(row[v], b);
@@ -88,15 +88,15 @@ fn column_marks(sets: &mut [u32], half: &[u32], n: usize)
 {
     for w in 0..n {
         let at = w * n;
-        add_marks(sets, &half[at..at + n], n, Board(w));
+        add_marks(sets, &half[at..at + n], Board(w));
     }
 }
 
 // Each set with its own board, but for those that are not in some.
 #[tactic(auto, using(crate::proofs::Bits::own_turns), unfolding(crate::specs::Marks::own_row))]
-fn with_own(sets: &mut [u32], n: usize, some: u32)
-    requires { (n ≤ 32) × (n ≡ length sets.old) }
-    ensures { sets.new ≡ tab (own_row sets.old some) n }
+fn with_own(sets: &mut [u32], some: u32)
+    requires { length sets.old ≤ 32 }
+    ensures { sets.new ≡ tab (own_row sets.old some) (length sets.old) }
 {
     for (u, set) in sets.iter_mut().enumerate() {
         *set = (*set | (1u32 << u)) & some;
@@ -108,9 +108,9 @@ pub fn write_columns(sets: &mut [u32], half: &[u32], n: usize, some: u32)
     requires { (n ≤ 32) × ((n ≡ length sets.old) × (n * n ≤ length half.now)) }
     ensures { sets.new ≡ tab (λ u. set_of (λ w. cell n half.now w u) n some u) n }
 {
-    lists::zero_over(sets, n);
+    lists::zero_over(sets);
     column_marks(sets, half, n);
-    with_own(sets, n, some);
+    with_own(sets, some);
 }
 
 // ---- sets that are the same

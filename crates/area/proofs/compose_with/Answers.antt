@@ -2,12 +2,13 @@
 -- Assumes nothing.
 use mathlib.Core.List.{List}
 use mathlib.Core.Path.{sym, ◌∙◌}
-use Prim.Native.Nat.{ℕ}
+use Prim.Native.Nat.{ℕ, ◌*◌, ◌-◌}
 use native.Mathlib.Nat.{add-sub_cancel_left}
 use native.Mathlib.Omega.{arith}
 use Rattle.lists.proofs.Splice.{written-part}
 use Rattle.measures.proofs.Words.{size_links}
 use Rattle.measures.specs.Kit.{join_of}
+use Rattle.area.proofs.Cut.{lent_words}
 use Rattle.area.proofs.Lent.{lies_links}
 use Rattle.area.proofs.Stored.{onto_lent}
 use Rattle.area.proofs.compose_with.Goals as goal
@@ -26,6 +27,7 @@ slice_bounds-compose_words-end c = omega (arith, lies_links _ _ c.requires.1 c.w
 
 pub returns : goal.returns
 returns c =
-    written-part _ _ _ (simp add-sub_cancel_left at c.compose_words.ensures)
+    let long = lent_words ((c.args.d - 1) * c.width-e.result) c.args.n c.args.area.now (omega (arith, lies_links _ _ c.requires.1 c.width-e.ensures c.requires.4)) in
+    written-part _ _ _ (simp add-sub_cancel_left at (rw long at c.compose_words.ensures))
     ∙ onto_lent _ _ _ c.width-e.ensures (sym (size_links c.args.measure c.args.n c.requires.1))
     (λ (t : List ℕ). join_of c.args.measure c.args.n t c.args.words.now)
