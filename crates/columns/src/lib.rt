@@ -1,4 +1,5 @@
-// Lines of numbers and dashes in columns, written into a buffer. The contracts say which bytes.
+// Lines of numbers and dashes in columns, written into a buffer. The contracts say which bytes: `Display` promises none, and what the buffer
+// holds would have to be proved all the same.
 #![tactic(auto)]
 
 ghost use Rattle.std.specs.Prelude.{◌++◌, ◌∷◌, [], ◌+◌, ◌≤◌, ◌<◌, length};

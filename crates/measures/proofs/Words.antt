@@ -21,14 +21,6 @@ pub size_links : (measure n : ℕ) → (measure ≡ 4 → ⊥) → size_of measu
 unfolding size_of
 size_links measure n e = simp (ne_eqb _ _ e)
 
-pub join_union : (measure n : ℕ) (s t : List ℕ) → measure ≡ 2 → union n s t ≡ join_of measure n s t
-unfolding join_of
-join_union measure n s t e = simp (ne_eqb measure 4 (λ f. omega arith), ne_eqb measure 3 (λ f. omega arith), eq-eqb measure 2 e)
-
-pub join_common : (measure n : ℕ) (s t : List ℕ) → measure ≢ 4 → measure ≢ 3 → measure ≢ 2 → intersection n s t ≡ join_of measure n s t
-unfolding join_of
-join_common measure n s t f g h = simp (ne_eqb measure 4 f, ne_eqb measure 3 g, ne_eqb measure 2 h)
-
 -- the own table of a pick, where it is the pick's words
 pub own_words : (hops measure n i : ℕ) (w : List ℕ) → measure ≢ 4 → measure ≢ 3 → own_of hops measure n i w ≡ w
 unfolding own_of

@@ -1,4 +1,5 @@
 // What the walk needs of each measure: the words of a table, a pick's own table, the composition, the test of a table.
+// A measure is a number everywhere: 01 hands any number and refuses with 2 what is no measure, and an enum would ask more of whoever calls.
 #![tactic(auto)]
 
 ghost use Rattle.std.specs.Prelude.{◌≡◌, ◌≢◌, ◌^◌, ◌≤◌, ◌<◌, length};

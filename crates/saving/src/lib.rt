@@ -111,6 +111,7 @@ impl Change<'_> {
         requires { HasRoom out.old (table_of opens self.now) }
         ensures { Puts out.old out.new (table_of opens self.now) }
     {
+        // By number: a `zip` of the two tables costs a pick up to 199 instructions more.
         for a in 0..self.was.len() {
             self.write_row(out, opens, a);
         }

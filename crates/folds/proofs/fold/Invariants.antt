@@ -1,4 +1,4 @@
--- `folds::fold` meets its contract. The invariant is `Made`; word v is read before it is written (`made_read`).
+-- `folds::fold` meets its contract. The invariant is `Made`; word v is read before it is written.
 -- Assumes nothing.
 use Rattle.lists.proofs.Tab.{Made}
 use Rattle.folds.specs.Folds.{each, better}

@@ -1,4 +1,4 @@
--- `joins::add_four` meets its contract. The invariant is `Made`; word u is read before it is written (`made_read`). Four rows of zero return at
+-- `joins::add_four` meets its contract. The invariant is `Made`; word u is read before it is written. Four rows of zero return at
 -- once (`no_four`).
 -- Assumes nothing.
 use Rattle.lists.proofs.Tab.{Made}
