@@ -9,7 +9,7 @@ use Rattle.lists.proofs.Splice.{read_inside}
 use Rattle.links.proofs.Ways.{length-within}
 use native.Mathlib.Omega.{arith}
 use borrow.Author.Tests.{eq-eqb, ne_eqb}
-use Rattle.links.specs.Tables.{intersection, union, compose, within, full, same}
+use Rattle.links.specs.Tables.{union, compose, within, full, same}
 use Rattle.times.specs.Times.{times_words}
 use Rattle.measures.specs.Kit.{size_of, own_of, join_of, pass_of, hops01}
 
