@@ -182,8 +182,8 @@ extern "C" {
 
 /*
  * A thread that calls needs this much stack to spare. Measured, not proved: pick, whole and decide take the most, some
- * 14 KiB under measure 4 and 11 KiB under the others; save takes far less; and where calls are bound lazily the linker
- * takes some 3 KiB more once.
+ * 8 KiB under every measure; save takes far less; and where calls are bound lazily the linker takes some 3 KiB more
+ * once.
  */
 #define NOOKMALLOW_STACK_BYTES 24576u
 

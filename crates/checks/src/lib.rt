@@ -39,7 +39,8 @@ pub fn is_clean(words: &[u32], n: usize) -> bool
     bad == 0
 }
 
-// Whether every link of a pick is in the footprint. The others are gathered.
+// Whether every link of a pick is in the footprint. The others are gathered: the loop of `is_clean` again, since one with the mask passed in would be
+// longer than both.
 #[tactic(auto, using(crate::proofs::Masks::listed_turns), unfolding(crate::specs::Checks::listed))]
 pub fn is_listed(footprint: &[u32], words: &[u32], n: usize) -> bool
     requires { (n ≤ length footprint.now) × (n ≤ length words.now) }

@@ -282,6 +282,7 @@ fn pass_over_all(t: &mut [u32], n: usize)
     ensures { t.new ≡ passes n t.old n }
 {
     let into = lists::any_of(t, n);
+    // By board: each pass changes the whole table.
     for w in 0..n {
         pass_if(t, into, Board(w));
     }

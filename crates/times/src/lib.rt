@@ -140,7 +140,7 @@ fn pair_out_of_time(t: &[u32], n: usize, turn: u32, a: Board, b: Board) -> u32
     unless_none(x, y, ways)
 }
 
-// The same, of a board with all boards below it.
+// The same, of a board with all boards below it. By board: a pair is looked at in both its rows.
 #[tactic(auto, using(crate::proofs::Pairs::below_turns))]
 fn row_out_of_time(t: &[u32], n: usize, turn: u32, from: Board) -> u32
     requires { (n ≤ 32) × ((from.0 < n) × (times_words n ≤ length t.now)) }
@@ -154,7 +154,7 @@ fn row_out_of_time(t: &[u32], n: usize, turn: u32, from: Board) -> u32
     ways
 }
 
-// How many ordered pairs of different boards are not in time, with `turn` picks to turn round in.
+// How many ordered pairs of different boards are not in time, with `turn` picks to turn round in. By board, since a row has no pair of its own.
 #[tactic(auto, using(crate::proofs::Pairs::square_turns), unfolding(crate::specs::Times::out_of_time))]
 pub fn out_of_time(t: &[u32], n: usize, turn: u32) -> u32
     requires { (n ≤ 32) × (times_words n ≤ length t.now) }

@@ -1,4 +1,4 @@
--- `joins::clear_own` meets its contract. The invariant is `Made`; word u is read before it is written (`made_read`).
+-- `joins::clear_own` meets its contract. The invariant is `Made`; word u is read before it is written.
 -- Assumes nothing.
 use Rattle.lists.proofs.Tab.{Made}
 use Rattle.joins.specs.Warshall.{clear_row}

@@ -1,4 +1,4 @@
--- `joins::join_rows` meets its contract. The invariant is `Made`; word u is read before it is written (`made_read`).
+-- `joins::join_rows` meets its contract. The invariant is `Made`; word u is read before it is written.
 -- Assumes nothing.
 use Rattle.lists.proofs.Tab.{Made}
 use Rattle.joins.specs.LookUps.{looked_row}

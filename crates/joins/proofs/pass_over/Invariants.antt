@@ -1,4 +1,4 @@
--- `joins::pass_over` meets its contract. The invariant is `Made`; word u is read before it is written (`made_read`). A row of zero returns at
+-- `joins::pass_over` meets its contract. The invariant is `Made`; word u is read before it is written. A row of zero returns at
 -- once (`no_column`). Assumes nothing.
 use Rattle.lists.proofs.Tab.{Made}
 use Rattle.joins.specs.Columns.{column_row}

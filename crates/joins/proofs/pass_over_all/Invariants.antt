@@ -1,4 +1,4 @@
--- `joins::pass_over_all` meets its contract. The invariant is the definition at `w`; a turn is `passes-next`.
+-- `joins::pass_over_all` meets its contract. The invariant is the definition at `w`.
 -- Assumes nothing.
 use mathlib.Core.Path.{◌≡◌}
 use Prim.Native.Nat.{◌≤◌}

@@ -1,4 +1,4 @@
--- `links::intersect_into` meets its contract. The invariant is `Made`; word u is read before it is written (`made_read`).
+-- `links::intersect_into` meets its contract. The invariant is `Made`; word u is read before it is written.
 -- Assumes nothing.
 use Rattle.lists.proofs.Tab.{Made}
 use Rattle.links.specs.Tables.{both_row}

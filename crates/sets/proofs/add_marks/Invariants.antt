@@ -1,4 +1,4 @@
--- `sets::add_marks` meets its contract. The invariant is `Made`; word v is read before it is written (`made_read`).
+-- `sets::add_marks` meets its contract. The invariant is `Made`; word v is read before it is written.
 -- Assumes nothing.
 use lib.ListN.{get_or}
 use Rattle.lists.proofs.Tab.{Made}

@@ -1,4 +1,4 @@
--- `sets::with_own` meets its contract. The invariant is `Made`; word u is read before it is written (`made_read`).
+-- `sets::with_own` meets its contract. The invariant is `Made`; word u is read before it is written.
 -- Assumes nothing.
 use Rattle.lists.proofs.Tab.{Made}
 use Rattle.sets.specs.Marks.{own_row}
