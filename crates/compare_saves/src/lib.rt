@@ -31,10 +31,7 @@ pub fn saved_as(n: usize, words: &[u32], room: usize, out: &mut [u8], wanted: &[
         return Outcome::NotRun;
     }
     out.fill(BYTE_MARK);
-    let saved = match saving::save(n, words, &mut out[..room]) {
-        saving::Saving::Written(k) => Ok(k),
-        saving::Saving::Refused(r) => Err(r),
-    };
+    let saved = saving::save(n, words, &mut out[..room]);
     if *out == *wanted {
         saved.into()
     } else {
