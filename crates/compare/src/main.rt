@@ -3,146 +3,95 @@
 // asks for no code and no proof.
 #![tactic(auto)]
 
-use compare_cases::Recorded;
-use compare_runs::{compare_counts, compare_decisions, compare_table, compare_whole};
-use compare_saves::compare_saves;
-use compare_tallies::Tally;
-use compare_walks::compare_picks;
+use compare_tallies::{Call, Group, Kind, Tally};
 use std::io;
+use std::io::Stdout;
 use std::rt::{Env, Files};
 
 // The area of ten picks over 32 boards under measure 4, 14 parts of 2,048 words; no case needs more.
 const WORDS: usize = 28672;
 
-// What all groups are lent.
-#[derive(Drop)]
-struct Bench<'a, 'w, R> {
-    rt: &'a R,
-    words: &'w mut [u32],
-    area: &'w mut [u32],
-}
+// The lines of the output.
+static GROUPS: &[Group] = &[
+    Group::ByHand(Kind::Whole(1)),
+    Group::ByHand(Kind::Whole(2)),
+    Group::ByHand(Kind::Whole(3)),
+    Group::ByHand(Kind::Whole(4)),
+    Group::ByHand(Kind::Picks(1)),
+    Group::ByHand(Kind::Picks(2)),
+    Group::ByHand(Kind::Picks(3)),
+    Group::ByHand(Kind::Picks(4)),
+    Group::ByHand(Kind::Counts(1)),
+    Group::ByHand(Kind::Counts(2)),
+    Group::ByHand(Kind::Counts(3)),
+    Group::ByHand(Kind::Counts(4)),
+    Group::Stated,
+    Group::ByHand(Kind::Tables),
+    Group::FilesRead,
+    Group::Generated(Kind::Whole(1)),
+    Group::Generated(Kind::Whole(2)),
+    Group::Generated(Kind::Whole(3)),
+    Group::Generated(Kind::Whole(4)),
+    Group::Generated(Kind::Picks(1)),
+    Group::Generated(Kind::Picks(2)),
+    Group::Generated(Kind::Picks(3)),
+    Group::Generated(Kind::Picks(4)),
+    Group::Generated(Kind::Counts(1)),
+    Group::Generated(Kind::Counts(2)),
+    Group::Generated(Kind::Counts(3)),
+    Group::Generated(Kind::Counts(4)),
+    Group::Generated(Kind::Tables),
+    Group::ByHand(Kind::Decisions(1)),
+    Group::ByHand(Kind::Decisions(2)),
+    Group::ByHand(Kind::Decisions(3)),
+    Group::ByHand(Kind::Decisions(4)),
+    Group::Generated(Kind::Decisions(1)),
+    Group::Generated(Kind::Decisions(2)),
+    Group::Generated(Kind::Decisions(3)),
+    Group::Generated(Kind::Decisions(4)),
+    Group::Edges(Call::Decide),
+    Group::ByHand(Kind::Saves),
+    Group::Generated(Kind::Saves),
+    Group::SaveEdges,
+    Group::Edges(Call::Whole),
+    Group::Edges(Call::Table),
+    Group::TableOfA,
+    Group::Edges(Call::Open),
+    Group::Edges(Call::Read),
+    Group::Edges(Call::Pick(1)),
+    Group::Edges(Call::Pick(2)),
+    Group::Edges(Call::Pick(3)),
+    Group::Edges(Call::Pick(4)),
+    Group::Edges(Call::Altered),
+    Group::Limit,
+];
 
-impl<'a, R: Env + Files + Print> Bench<'a, '_, R> {
-    fn by_hand<F: Fn(&mut Tally<'_, R>, &Recorded<'_, '_>, &mut [u32])>(
-        &mut self,
-        group: &'a str,
-        measure: Option<usize>,
-        run: F,
-    ) -> io::Result<()>
-        requires { (f : F) (tally : _) (recorded : _) (area : _) → F.pre f tally recorded area }
-    {
-        compare_files::tally_by_hand(self.rt, group, measure, self.words, self.area, run).print()
-    }
-
-    fn generated<F: Fn(&mut Tally<'_, R>, &Recorded<'_, '_>, &mut [u32])>(
-        &mut self,
-        group: &'a str,
-        measure: Option<usize>,
-        run: F,
-    ) -> io::Result<()>
-        requires { F.IsAlwaysCallable run }
-    {
-        compare_generated::tally(self.rt, group, measure, self.area, run).print()
-    }
-
-    fn print_recordings(&mut self) -> io::Result<()> {
-        for measure in 1..=4 {
-            self.by_hand(
-                "by-hand-whole",
-                Some(measure),
-                |tally, recorded, area| compare_whole(tally, recorded, measure, area),
-            )?;
-        }
-        for measure in 1..=4 {
-            self.by_hand(
-                "by-hand-picks",
-                Some(measure),
-                |tally, recorded, area| compare_picks(tally, recorded, measure, area),
-            )?;
-        }
-        for measure in 1..=4 {
-            self.by_hand(
-                "by-hand-counts",
-                Some(measure),
-                |tally, recorded, area| compare_counts(tally, recorded, measure, area),
-            )?;
-        }
-        compare_files::tally_stated(self.rt, self.words, self.area).print()?;
-        self.by_hand("by-hand-tables", None, compare_table)?;
-        compare_files::tally_read(self.rt, self.words).print()?;
-        for measure in 1..=4 {
-            self.generated(
-                "generated-whole",
-                Some(measure),
-                |tally, recorded, area| compare_whole(tally, recorded, measure, area),
-            )?;
-        }
-        for measure in 1..=4 {
-            self.generated(
-                "generated-picks",
-                Some(measure),
-                |tally, recorded, area| compare_picks(tally, recorded, measure, area),
-            )?;
-        }
-        for measure in 1..=4 {
-            self.generated(
-                "generated-counts",
-                Some(measure),
-                |tally, recorded, area| compare_counts(tally, recorded, measure, area),
-            )?;
-        }
-        self.generated("generated-tables", None, compare_table)
-    }
-
-    fn print_decisions(&mut self) -> io::Result<()> {
-        for measure in 1..=4 {
-            self.by_hand(
-                "by-hand-decisions",
-                Some(measure),
-                |tally, recorded, area| compare_decisions(tally, recorded, measure, area),
-            )?;
-        }
-        for measure in 1..=4 {
-            self.generated(
-                "generated-decisions",
-                Some(measure),
-                |tally, recorded, area| compare_decisions(tally, recorded, measure, area),
-            )?;
-        }
-        compare_edges::tally_decide(self.rt, self.words, self.area).print()
-    }
-
-    fn print_saves(&mut self) -> io::Result<()> {
-        self.by_hand("by-hand-saves", None, compare_saves)?;
-        self.generated("generated-saves", None, compare_saves)?;
-        compare_save_edges::tally(self.rt, self.words).print()
-    }
-
-    fn print_edges(&mut self) -> io::Result<()> {
-        compare_edges::tally_whole(self.rt, self.words, self.area).print()?;
-        compare_edges::tally_table(self.rt, self.words, self.area).print()?;
-        compare_edges::tally_table_of_a(self.rt, self.area).print()?;
-        compare_edges::tally_open(self.rt, self.words, self.area).print()?;
-        compare_edges::tally_read(self.rt, self.words, self.area).print()?;
-        for measure in 1..=4 {
-            compare_walk_edges::tally_picks(self.rt, measure, self.area, self.words).print()?;
-        }
-        compare_walk_edges::tally_places(self.rt, self.area, self.words).print()?;
-        compare_walk_edges::tally_limit(self.rt, self.area, self.words).print()
+fn tally<R: Env + Files>(
+    rt: &R,
+    out: Stdout,
+    group: Group,
+    words: &mut [u32],
+    area: &mut [u32],
+) -> Tally {
+    match group {
+        Group::Generated(kind) => compare_generated::tally(out, kind, area),
+        Group::Edges(call) => compare_edges::tally(out, call, words, area),
+        Group::TableOfA => compare_edges::tally_of_a(out, area),
+        Group::Limit => compare_walk_edges::tally_limit(out, area, words),
+        Group::SaveEdges => compare_save_edges::tally(out, words),
+        Group::ByHand(_) | Group::Stated | Group::FilesRead => compare_files::tally(
+            rt, out, group, words, area,
+        ),
     }
 }
 
 fn main(rt: HostRuntime) -> io::Result<()> {
     let mut words = [0u32; WORDS];
     let mut area = [0u32; WORDS];
-    let mut bench = Bench {
-        rt: &rt,
-        words: &mut words,
-        area: &mut area,
-    };
-    println!(rt; "group measure cases mismatches")?;
-    bench.print_recordings()?;
-    bench.print_decisions()?;
-    bench.print_saves()?;
-    bench.print_edges()
+    let out = rt.stdout();
+    println!(out; "group measure cases mismatches")?;
+    for group in GROUPS {
+        tally(&rt, out, *group, &mut words, &mut area).print()?;
+    }
+    Ok(())
 }

@@ -16,9 +16,11 @@ pub fn is_marked(words: &[u32]) -> bool {
 }
 
 // Both links of two boards, pick after pick.
-pub fn fill_with_links(words: &mut [u32]) {
+pub const LINKS: [u32; 2] = [2, 1];
+
+pub fn fill_by_turns(words: &mut [u32], turns: [u32; 2]) {
     for (i, word) in words.iter_mut().enumerate() {
-        *word = if i % 2 == 0 { 2 } else { 1 };
+        *word = turns[i % 2];
     }
 }
 

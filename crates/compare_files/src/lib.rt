@@ -3,10 +3,11 @@
 
 use compare_cases::{MARK, Recorded, is_marked};
 use compare_listed::Listed;
-use compare_tallies::{Case, Outcome, Tally};
+use compare_tallies::{Case, Group, Outcome, Tally};
 use recording::Reading;
 use std::env::FillError;
 use std::fs::File;
+use std::io::Stdout;
 use std::rt::{Env, Files};
 
 // The most picks of a file, as `lengths` has it.
@@ -34,78 +35,38 @@ fn recorded<'c, 'w, R: Files>(
     Recorded::new(case, read.boards, read.picks, words)
 }
 
-// Each argument that is a case, with its number. No heap is used, so the arguments are had one by one, and one that the buffer does not hold is no case.
-fn for_each_listed<R: Env, F: FnMut(usize, Listed<'_>)>(rt: &R, mut run: F)
-    requires { (f : F) (number : _) (listed : _) → F.pre f number listed }
-{
-    let mut text = [0u8; 4096];
-    for number in 1..usize::MAX {
-        match rt.arg(number, &mut text) {
-            Ok(n) => {
-                let listed = str::from_utf8(&text[..n])
-                    .ok()
-                    .and_then(compare_listed::parse);
-                if let Some(listed) = listed {
-                    run(number, listed);
-                }
-            }
-            Err(FillError::TooLong) => {}
-            Err(FillError::NotPresent) => break,
-        }
-    }
-}
-
-// What is run of each file that is read, under a measure where there is one.
-pub fn tally_by_hand<
-    'a,
-    R: Env + Files + Print,
-    F: Fn(&mut Tally<'_, R>, &Recorded<'_, '_>, &mut [u32]),
->(
-    rt: &'a R,
-    group: &'a str,
-    measure: Option<usize>,
+// A recording against the second implementation; a recording against what is stated of it; how a file is read. What is no case of the group is passed over.
+fn compare_listed<R: Files>(
+    rt: &R,
+    tally: &mut Tally,
+    group: Group,
+    number: usize,
+    listed: Listed<'_>,
     words: &mut [u32],
     area: &mut [u32],
-    run: F,
-) -> Tally<'a, R>
-    requires { (f : F) (tally : _) (recorded : _) (area : _) → F.pre f tally recorded area }
-{
-    let mut tally = Tally::new(rt, group, measure);
-    for_each_listed(
-        rt,
-        |number, listed|
-            requires { F.IsAlwaysCallable run }
-        {
-            if let Listed::Read {
+) {
+    match (group, listed) {
+        (
+            Group::ByHand(kind),
+            Listed::Read {
                 file,
                 refusal: None,
-            } = listed
-            {
-                let case = Case::new(file, number, measure);
-                match recorded(rt, case, words) {
-                    Some(recorded) => run(&mut tally, &recorded, area),
-                    None => tally.compare(case, Outcome::NotRun, Outcome::from(None)),
-                }
+            },
+        ) => {
+            let case = Case::new(file, number, kind.measure());
+            match recorded(rt, case, words) {
+                Some(recorded) => compare_runs::run(tally, kind, &recorded, area),
+                None => tally.compare(case, Outcome::NotRun, Outcome::from(None)),
             }
-        },
-    );
-    tally
-}
-
-// A whole run against what is stated of it.
-pub fn tally_stated<'a, R: Env + Files + Print>(
-    rt: &'a R,
-    words: &mut [u32],
-    area: &mut [u32],
-) -> Tally<'a, R> {
-    let mut tally = Tally::new(rt, "by-hand-stated", None);
-    for_each_listed(rt, |number, listed| {
-        if let Listed::Stated {
-            file,
-            measure,
-            answer,
-        } = listed
-        {
+        }
+        (
+            Group::Stated,
+            Listed::Stated {
+                file,
+                measure,
+                answer,
+            },
+        ) => {
             let case = Case::new(file, number, Some(measure));
             let got = match recorded(rt, case, words) {
                 Some(recorded) => compare_runs::run_whole(
@@ -117,21 +78,40 @@ pub fn tally_stated<'a, R: Env + Files + Print>(
             };
             tally.compare(case, got, answer);
         }
-    });
-    tally
-}
-
-// How each file is read.
-pub fn tally_read<'a, R: Env + Files + Print>(rt: &'a R, words: &mut [u32]) -> Tally<'a, R> {
-    let mut tally = Tally::new(rt, "files-read", None);
-    for_each_listed(rt, |number, listed| {
-        if let Listed::Read { file, refusal } = listed {
+        (Group::FilesRead, Listed::Read { file, refusal }) => {
             let got = match load(rt, file, words) {
                 Ok(_) => Outcome::from(None),
                 Err(outcome) => outcome,
             };
             tally.compare(Case::new(file, number, None), got, refusal.into());
         }
-    });
+        _ => {}
+    }
+}
+
+// The number of a case is that of its argument. No heap is used, so the arguments are had one by one, and one that the buffer does not hold is no case.
+pub fn tally<R: Env + Files>(
+    rt: &R,
+    out: Stdout,
+    group: Group,
+    words: &mut [u32],
+    area: &mut [u32],
+) -> Tally {
+    let mut tally = Tally::new(out, group);
+    let mut text = [0u8; 4096];
+    for number in 1..usize::MAX {
+        match rt.arg(number, &mut text) {
+            Ok(n) => {
+                let listed = str::from_utf8(&text[..n])
+                    .ok()
+                    .and_then(compare_listed::parse);
+                if let Some(listed) = listed {
+                    compare_listed(rt, &mut tally, group, number, listed, words, area);
+                }
+            }
+            Err(FillError::TooLong) => {}
+            Err(FillError::NotPresent) => break,
+        }
+    }
     tally
 }

@@ -2,7 +2,8 @@
 #![tactic(auto)]
 
 use compare_cases::{Generator, Recorded, Share};
-use compare_tallies::{Case, Outcome, Tally};
+use compare_tallies::{Case, Group, Kind, Outcome, Tally};
+use std::io::Stdout;
 
 // 31 numbers of boards times 4 shares.
 const COUNT: usize = 124;
@@ -17,26 +18,17 @@ const SHARES: [Share; 4] = [
 // The words of the largest, 9 picks over 32 boards.
 const WORDS: usize = 288;
 
-// What is run of each of them, under a measure where there is one.
-pub fn tally<'a, R: Print, F: Fn(&mut Tally<'_, R>, &Recorded<'_, '_>, &mut [u32])>(
-    rt: &'a R,
-    group: &'a str,
-    measure: Option<usize>,
-    area: &mut [u32],
-    run: F,
-) -> Tally<'a, R>
-    requires { F.IsAlwaysCallable run }
-{
-    let mut tally = Tally::new(rt, group, measure);
+pub fn tally(out: Stdout, kind: Kind, area: &mut [u32]) -> Tally {
+    let mut tally = Tally::new(out, Group::Generated(kind));
     let mut generator = Generator::new();
     let mut words = [0u32; WORDS];
     for i in 0..COUNT {
         let boards = 2 + i % 31;
         let picks = 5 + i % 5;
-        let case = Case::new("recording", i, measure);
+        let case = Case::new("recording", i, kind.measure());
         generator.fill(&mut words, boards, SHARES[i % 4]);
         match Recorded::new(case, boards, picks, &words) {
-            Some(recorded) => run(&mut tally, &recorded, area),
+            Some(recorded) => compare_runs::run(&mut tally, kind, &recorded, area),
             None => tally.compare(case, Outcome::NotRun, Outcome::from(None)),
         }
     }

@@ -246,11 +246,7 @@ pub static SAVE_EDGES: &[Edge] = &edges![
 ];
 
 // Each row is a case.
-pub fn compare_edges<R: Print, F: FnMut(&Edge) -> Outcome>(
-    tally: &mut Tally<'_, R>,
-    edges: &[Edge],
-    mut run: F,
-)
+pub fn compare_edges<F: FnMut(&Edge) -> Outcome>(tally: &mut Tally, edges: &[Edge], mut run: F)
     requires { F.IsAlwaysCallable run }
 {
     for edge in edges {

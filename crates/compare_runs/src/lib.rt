@@ -5,7 +5,7 @@ ghost use Rattle.std.specs.Prelude.{◌≤◌, ◌<◌, IfSome};
 
 use calls::Answer;
 use compare_cases::Recorded;
-use compare_tallies::{Outcome, Tally};
+use compare_tallies::{Kind, Outcome, Tally};
 use model::{Compositions, Refusal, Tests};
 use naive::Recording;
 use naive_walk::Walk;
@@ -25,12 +25,7 @@ fn naive_whole(walk: &Walk<'_>) -> Outcome {
     compare_walks::naive_answer(walk, walk.whole())
 }
 
-pub fn compare_whole<R: Print>(
-    tally: &mut Tally<'_, R>,
-    recorded: &Recorded<'_, '_>,
-    measure: usize,
-    area: &mut [u32],
-) {
+fn compare_whole(tally: &mut Tally, recorded: &Recorded<'_, '_>, measure: usize, area: &mut [u32]) {
     let recording = recorded.recording;
     let got = run_whole(&recording, measure, area);
     tally.compare(
@@ -59,8 +54,8 @@ fn bounded(counts: Counts, measure: usize, m: usize) -> Counts
     }
 }
 
-pub fn compare_counts<R: Print>(
-    tally: &mut Tally<'_, R>,
+fn compare_counts(
+    tally: &mut Tally,
     recorded: &Recorded<'_, '_>,
     measure: usize,
     area: &mut [u32],
@@ -98,8 +93,8 @@ fn naive_decision(walk: &Walk<'_>, k: usize) -> Outcome
 }
 
 // Every window length from 1 to the number of picks: no recording here has more than 40.
-pub fn compare_decisions<R: Print>(
-    tally: &mut Tally<'_, R>,
+fn compare_decisions(
+    tally: &mut Tally,
     recorded: &Recorded<'_, '_>,
     measure: usize,
     area: &mut [u32],
@@ -126,7 +121,7 @@ fn row_apart(recording: &Recording<'_>, table: &[u32]) -> Option<usize>
 }
 
 // What the call wrote, against the second implementation, at the row that shows a difference if any does.
-fn compare_rows<R: Print>(tally: &mut Tally<'_, R>, recorded: &Recorded<'_, '_>, table: &[u32]) {
+fn compare_rows(tally: &mut Tally, recorded: &Recorded<'_, '_>, table: &[u32]) {
     let recording = recorded.recording;
     let u = row_apart(&recording, table).unwrap_or(0);
     let got = table.get(u).map_or(0, |word| *word as usize);
@@ -138,11 +133,7 @@ fn compare_rows<R: Print>(tally: &mut Tally<'_, R>, recorded: &Recorded<'_, '_>,
     );
 }
 
-pub fn compare_table<R: Print>(
-    tally: &mut Tally<'_, R>,
-    recorded: &Recorded<'_, '_>,
-    out: &mut [u32],
-) {
+fn compare_table(tally: &mut Tally, recorded: &Recorded<'_, '_>, out: &mut [u32]) {
     let recording = recorded.recording;
     let wanted = (recording.picks == 0).then_some(Refusal::NoPick);
     let refusal = reach::table(recording.boards, recording.words, out).err();
@@ -150,5 +141,19 @@ pub fn compare_table<R: Print>(
         tally.compare(recorded.case, refusal.into(), wanted.into());
     } else {
         compare_rows(tally, recorded, out);
+    }
+}
+
+// ---- all of it
+
+// The cases of one kind: one, or one for each pick, window length or step of saving.
+pub fn run(tally: &mut Tally, kind: Kind, recorded: &Recorded<'_, '_>, area: &mut [u32]) {
+    match kind {
+        Kind::Whole(measure) => compare_whole(tally, recorded, measure, area),
+        Kind::Picks(measure) => compare_walks::compare_picks(tally, recorded, measure, area),
+        Kind::Counts(measure) => compare_counts(tally, recorded, measure, area),
+        Kind::Decisions(measure) => compare_decisions(tally, recorded, measure, area),
+        Kind::Tables => compare_table(tally, recorded, area),
+        Kind::Saves => compare_saves::compare_saves(tally, recorded, area),
     }
 }

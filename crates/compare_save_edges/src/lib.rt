@@ -1,11 +1,12 @@
 // Runs the edges of saving. A file must be that of the second implementation, with every byte behind it left; where the call refuses, every byte must stay.
 #![tactic(auto)]
 
-use compare_cases::fill_with_links;
+use compare_cases::{LINKS, fill_by_turns};
 use compare_rows::{Edge, SAVE_EDGES, compare_edges};
 use compare_saves::{marked, saved_as};
-use compare_tallies::{Outcome, Tally};
+use compare_tallies::{Group, Outcome, Tally};
 use naive::Recording;
+use std::io::Stdout;
 
 // Writes the file of a row that is not refused, and answers its size; 0 and nothing for any other.
 fn put_wanted(edge: &Edge, words: &[u32], wanted: &mut [u8]) -> usize {
@@ -27,7 +28,7 @@ fn run(edge: &Edge, words: &mut [u32]) -> Outcome {
     if words.len() < edge.lent {
         return Outcome::NotRun;
     }
-    fill_with_links(words);
+    fill_by_turns(words, LINKS);
     if let Some(word) = words.get_mut(edge.at) {
         *word = edge.word;
     }
@@ -42,8 +43,8 @@ fn run(edge: &Edge, words: &mut [u32]) -> Outcome {
     }
 }
 
-pub fn tally<'a, R: Print>(rt: &'a R, words: &mut [u32]) -> Tally<'a, R> {
-    let mut tally = Tally::new(rt, "edges-save", None);
+pub fn tally(out: Stdout, words: &mut [u32]) -> Tally {
+    let mut tally = Tally::new(out, Group::SaveEdges);
     compare_edges(&mut tally, SAVE_EDGES, |edge| run(edge, words));
     tally
 }

@@ -64,11 +64,7 @@ fn read_back(recording: &Recording<'_>, file: &[u8], area: &mut [u32]) -> Outcom
 
 // By their steps: 1, into more room than needed; 2, into a byte less; 3, into exactly the room needed, so that the output ends with the file; 4, the file
 // read back; 5, what was read saved again, which is the same file.
-pub fn compare_saves<R: Print>(
-    tally: &mut Tally<'_, R>,
-    recorded: &Recorded<'_, '_>,
-    area: &mut [u32],
-) {
+pub fn compare_saves(tally: &mut Tally, recorded: &Recorded<'_, '_>, area: &mut [u32]) {
     let case = recorded.case;
     let recording = recorded.recording;
     let n = recording.boards;

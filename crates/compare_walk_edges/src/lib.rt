@@ -3,9 +3,10 @@
 #![tactic(auto)]
 
 use compare_rows::{PICK_EDGES, PLACE_EDGES, PickEdge};
-use compare_tallies::{Case, Outcome, Tally};
+use compare_tallies::{Case, Group, Outcome, Tally};
 use model::{Compositions, Refusal, Tests};
 use place::{Counts, Place};
+use std::io::Stdout;
 
 // ---- the calls
 
@@ -70,13 +71,7 @@ fn pick_edge(edge: &PickEdge, measure: usize, area: &mut [u32], kept: &mut [u32]
     )
 }
 
-pub fn tally_picks<'a, R: Print>(
-    rt: &'a R,
-    measure: usize,
-    area: &mut [u32],
-    kept: &mut [u32],
-) -> Tally<'a, R> {
-    let mut tally = Tally::new(rt, "edges-pick", Some(measure));
+pub fn compare_picks(tally: &mut Tally, measure: usize, area: &mut [u32], kept: &mut [u32]) {
     for edge in PICK_EDGES {
         let refusal = if measure == 2 {
             edge.refusal_listed
@@ -85,7 +80,6 @@ pub fn tally_picks<'a, R: Print>(
         };
         tally.compare_row(pick_edge(edge, measure, area, kept), refusal);
     }
-    tally
 }
 
 // ---- an altered place
@@ -105,11 +99,11 @@ fn altered_pick(p: Place, lent: usize, area: &mut [u32], kept: &mut [u32]) -> Ou
 }
 
 // Two cases a row: what the pick call answers of an altered place, and what the length call.
-pub fn tally_places<'a, R: Print>(rt: &'a R, area: &mut [u32], kept: &mut [u32]) -> Tally<'a, R> {
-    let mut tally = Tally::new(rt, "edges-place", None);
+pub fn compare_places(tally: &mut Tally, area: &mut [u32], kept: &mut [u32]) {
     for (i, edge) in PLACE_EDGES.iter().enumerate() {
         let p = edge.altered();
         let pick = altered_pick(p, edge.lent, area, kept);
+        let length = run_length(p);
         tally.compare(
             Case::new("pick", i + 1, None),
             pick,
@@ -117,18 +111,17 @@ pub fn tally_places<'a, R: Print>(rt: &'a R, area: &mut [u32], kept: &mut [u32])
         );
         tally.compare(
             Case::new("length", i + 1, None),
-            run_length(p),
+            length,
             edge.refusal_length.into(),
         );
     }
-    tally
 }
 
 // ---- the limit
 
 // A place that was just opened has no length yet, 8; after all its picks it has, and one pick more is refused, 7.
-pub fn tally_limit<'a, R: Print>(rt: &'a R, area: &mut [u32], kept: &mut [u32]) -> Tally<'a, R> {
-    let mut tally = Tally::new(rt, "edges-limit", None);
+pub fn tally_limit(out: Stdout, area: &mut [u32], kept: &mut [u32]) -> Tally {
+    let mut tally = Tally::new(out, Group::Limit);
     let both = [2u32, 1];
     let most = 4096;
     let fresh = compare_walks::opened(2, 3, most, &both, area);

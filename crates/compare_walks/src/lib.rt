@@ -59,8 +59,8 @@ pub fn measured(p: Place, k: usize) -> Outcome {
     calls::length(p).answer.into()
 }
 
-pub fn compare_picks<R: Print>(
-    tally: &mut Tally<'_, R>,
+pub fn compare_picks(
+    tally: &mut Tally,
     recorded: &Recorded<'_, '_>,
     measure: usize,
     area: &mut [u32],
