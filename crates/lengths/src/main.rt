@@ -1,13 +1,13 @@
 // Reads one recording file from standard input, up to 16,384 bytes, and prints its length under each measure.
 #![tactic(auto)]
 
-// The descriptor of standard output.
-const STDOUT: i32 = 1;
+use std::io;
+use std::io::Write;
 
-fn main() {
+fn main(rt: HostRuntime) -> io::Result<()> {
     let mut input = [0u8; 16384];
-    let n = io::read_full(0, &mut input);
+    let n = inputs::read_full(&mut rt.stdin(), &mut input);
     let mut out = [0u8; 462];
     let end = lengths_text::put_lengths(&input[..n], &mut out);
-    io::write_all(STDOUT, &out[..end]);
+    rt.stdout().write_all(&out[..end])
 }
