@@ -4,7 +4,6 @@
 #![tactic(auto)]
 
 use compare_tallies::{Call, Group, Kind, Tally};
-use std::io;
 use std::io::Stdout;
 use std::rt::{Env, Files};
 
@@ -85,13 +84,13 @@ fn tally<R: Env + Files>(
     }
 }
 
-fn main(rt: HostRuntime) -> io::Result<()> {
+// An output that takes no more is no failure of the program.
+fn main(rt: HostRuntime) {
     let mut words = [0u32; WORDS];
     let mut area = [0u32; WORDS];
     let out = rt.stdout();
-    println!(out; "group measure cases mismatches")?;
+    let _ = println!(out; "group measure cases mismatches");
     for group in GROUPS {
-        tally(&rt, out, *group, &mut words, &mut area).print()?;
+        let _ = tally(&rt, out, *group, &mut words, &mut area).print();
     }
-    Ok(())
 }
