@@ -178,7 +178,6 @@ pub fn joined_passes(
         &area[from..from + n],
         &area[at..at + n],
         &area[to..to + n],
-        n,
     )
 }
 

@@ -8,8 +8,7 @@ use native.Mathlib.Nat.{lt_of_lt_of_le}
 use native.Mathlib.Omega.{arith}
 use lib.Bits.{bit_and, bit_or, or_lt, or_add_and, and_le_l, and_le_r}
 use lib.Dec.{T, eqb, eqb→eq, leb, leb→le, le→leb}
-use lib.ListN.{length, take, get_or}
-use lib.Seq.{get_or-take, length-take-le}
+use lib.ListN.{length, get_or}
 use Rattle.std.proofs.Common.{Fits, w32}
 use Rattle.lists.specs.Tab.{every}
 use Rattle.links.proofs.Gather.{bad_turn}
@@ -81,12 +80,11 @@ clean_word n w u n32 h hx =
 
 -- a turn of the loop that gathers the forbidden bits
 pub clean_turn : (n : ℕ) (w : List ℕ) (u bad : ℕ) → n ≤ 32 → u < n → eqb bad 0 ≡ every (clean_row n w) u → Fits w32 (get_or w u 0)
-    → eqb (bit_or bad (bit_and (get_or (take n w) u 0) (2 ^ 32 - 1 - without (allowed n) u))) 0 ≡ every (clean_row n w) (u + 1)
+    → eqb (bit_or bad (bit_and (get_or w u 0) (2 ^ 32 - 1 - without (allowed n) u))) 0 ≡ every (clean_row n w) (u + 1)
 clean_turn n w u bad n32 h e a =
-    rw (get_or-take n w u 0)
-    (bad_turn (clean_row n w) u bad (bit_and (get_or w u 0) (2 ^ 32 - 1 - without (allowed n) u)) e (clean_word n w u n32 h (omega arith)))
+    bad_turn (clean_row n w) u bad (bit_and (get_or w u 0) (2 ^ 32 - 1 - without (allowed n) u)) e (clean_word n w u n32 h (omega arith))
 
-pub ruleset clean_turns = (every_none, clean_turn, length-take-le)
+pub ruleset clean_turns = (every_none, clean_turn)
 
 listed-clean : (n : ℕ) (w : List ℕ) → n ≤ 32 → listed n (all_open n) w ≡ clean n w
 unfolding listed clean

@@ -8,8 +8,7 @@ use native.Mathlib.Nat.{lt_of_le_of_lt, lt_of_lt_of_le}
 use native.Mathlib.Omega.{arith}
 use lib.Bits.{bit_and, bit_or, or_lt, and_le_l}
 use lib.Dec.{T, eqb, eqb→eq}
-use lib.ListN.{take, get_or}
-use lib.Seq.{get_or-take, length-take-le}
+use lib.ListN.{get_or}
 use Rattle.std.proofs.Common.{Fits, w32}
 use Rattle.lists.specs.Tab.{every}
 use Rattle.lists.proofs.Tab.{every_none}
@@ -71,10 +70,9 @@ listed_word l w u hx hm = bool_ext (eqb (bit_and x (2 ^ 32 - 1 - m)) 0) (eqb (bi
         (or_out x m e v a))
 
 -- a turn of the loop that gathers the links outside the footprint
-pub listed_turn : (l w : List ℕ) (u n bad : ℕ) → u < n → eqb bad 0 ≡ every (listed_row l w) u → Fits w32 (get_or w u 0) → Fits w32 (get_or l u 0)
-    → eqb (bit_or bad (bit_and (get_or (take n w) u 0) (2 ^ 32 - 1 - get_or l u 0))) 0 ≡ every (listed_row l w) (u + 1)
-listed_turn l w u n bad h e a b =
-    rw (get_or-take n w u 0)
-    (bad_turn (listed_row l w) u bad (bit_and (get_or w u 0) (2 ^ 32 - 1 - get_or l u 0)) e (listed_word l w u (omega arith) (omega arith)))
+pub listed_turn : (l w : List ℕ) (u bad : ℕ) → eqb bad 0 ≡ every (listed_row l w) u → Fits w32 (get_or w u 0) → Fits w32 (get_or l u 0)
+    → eqb (bit_or bad (bit_and (get_or w u 0) (2 ^ 32 - 1 - get_or l u 0))) 0 ≡ every (listed_row l w) (u + 1)
+listed_turn l w u bad e a b =
+    bad_turn (listed_row l w) u bad (bit_and (get_or w u 0) (2 ^ 32 - 1 - get_or l u 0)) e (listed_word l w u (omega arith) (omega arith))
 
-pub ruleset listed_turns = (every_none, listed_turn, length-take-le)
+pub ruleset listed_turns = (every_none, listed_turn)

@@ -1,11 +1,12 @@
 // Checks of a pick or a footprint: forbidden bits, and links outside the footprint.
 #![tactic(auto)]
 
-ghost use Rattle.std.specs.Prelude.{◌≡◌, ◌*◌, ◌≤◌, length};
+ghost use Rattle.std.specs.Prelude.{◌≡◌, ◌≤◌, length};
 ghost use Rattle.lists.specs.Tab.{zeros, splice};
 ghost use Rattle.checks.specs.Checks.{allowed, clean, listed, all_open};
 ghost use Rattle.checks.specs.Lent.{clean_picks};
 
+use links::Lent;
 use model::Board;
 
 // The allowed bits for each number of boards n, 0 to 32: those below n. Row a of n boards may hold them all but bit a. A table of constants is a
@@ -24,16 +25,16 @@ fn allowed_bits(n: usize) -> u32
     ALLOWED[n]
 }
 
-// Whether n words have no forbidden bit, of board n or above or their own: none outside the row of the pick with all links open. Such bits are
-// gathered, so that the loop has no branch.
+// Whether the words of a pick have no forbidden bit, of a board that there is not or their own: none outside the row of the pick with all links open. Such
+// bits are gathered, so that the loop has no branch.
 #[tactic(auto, using(crate::proofs::AllOpen::clean_turns), unfolding(crate::specs::Checks::clean))]
-pub fn is_clean(words: &[u32], n: usize) -> bool
-    requires { (n ≤ 32) × (n ≤ length words.now) }
-    ensures { result ≡ clean n words.now }
+pub fn is_clean(words: &[u32]) -> bool
+    requires { length words.now ≤ 32 }
+    ensures { result ≡ clean (length words.now) words.now }
 {
-    let bits = allowed_bits(n);
+    let bits = allowed_bits(words.len());
     let mut bad = 0u32;
-    for (u, row) in words[..n].iter().enumerate() {
+    for (u, row) in words.iter().enumerate() {
         bad |= *row & !links::cleared(bits, Board(u));
     }
     bad == 0
@@ -42,12 +43,12 @@ pub fn is_clean(words: &[u32], n: usize) -> bool
 // Whether every link of a pick is in the footprint. The others are gathered: the loop of `is_clean` again, since one with the mask passed in would be
 // longer than both.
 #[tactic(auto, using(crate::proofs::Masks::listed_turns), unfolding(crate::specs::Checks::listed))]
-pub fn is_listed(footprint: &[u32], words: &[u32], n: usize) -> bool
-    requires { (n ≤ length footprint.now) × (n ≤ length words.now) }
-    ensures { result ≡ listed n footprint.now words.now }
+pub fn is_listed(footprint: &[u32], words: &[u32]) -> bool
+    requires { length words.now ≤ length footprint.now }
+    ensures { result ≡ listed (length words.now) footprint.now words.now }
 {
     let mut bad = 0u32;
-    for (u, row) in words[..n].iter().enumerate() {
+    for (u, row) in words.iter().enumerate() {
         bad |= *row & !footprint[u];
     }
     bad == 0
@@ -67,15 +68,15 @@ fn all_open(n: usize) -> [u32; 32]
     rows
 }
 
-// Whether none of the first m picks, n words each, has a forbidden bit. Their union has a bit exactly where some pick has it, so it is asked of
-// the union, once.
+// Whether none of the picks has a forbidden bit. Their union has a bit exactly where some pick has it, so it is asked of the union, once.
 #[tactic(auto, using(crate::proofs::United::unions))]
-pub fn are_clean(words: &[u32], n: usize, m: usize) -> bool
-    requires { (n ≤ 32) × ((m ≤ 4096) × (m * n ≤ length words.now)) }
-    ensures { result ≡ clean_picks n words.now m }
+pub fn are_clean(lent: &Lent<'_>) -> bool
+    requires { lent.now.n ≤ 32 }
+    ensures { result ≡ clean_picks lent.now.n lent.now.words.now lent.now.m }
 {
+    let n = lent.n;
     let rows = all_open(n);
     let mut any = lists::zeroed::<32>();
-    links::unite_picks(&mut any[..n], words, n, 0, m);
-    is_listed(&rows[..n], &any[..n], n)
+    lent.unite_picks(&mut any[..n], 0);
+    is_listed(&rows[..n], &any[..n])
 }

@@ -281,7 +281,7 @@ fn pass_over_all(t: &mut [u32], n: usize)
     requires { (n ≤ 32) × (n ≡ length t.old) }
     ensures { t.new ≡ passes n t.old n }
 {
-    let into = lists::any_of(t, n);
+    let into = lists::any_of(t);
     // By board: each pass changes the whole table.
     for w in 0..n {
         pass_if(t, into, Board(w));
@@ -306,7 +306,7 @@ fn close(t: &mut [u32], n: usize)
     ensures { t.new ≡ within n most_links t.old }
 {
     if searches::is_connected(t, n) {
-        let boards = lists::any_of(t, n);
+        let boards = lists::any_of(t);
         links::fill_rows(t, boards);
     } else {
         close_by_passes(t, n);

@@ -8,8 +8,7 @@ use native.Mathlib.Omega.{arith}
 use lib.Bits.{bit_xor, xor_lt, or_lt}
 use lib.Count.{ones}
 use lib.Dec.{T, eqb, eqb→eq}
-use lib.ListN.{take, get_or}
-use lib.Seq.{get_or-take, length-take-le}
+use lib.ListN.{get_or}
 use Rattle.std.proofs.Common.{Fits, w32}
 use lib.Pow.{pow_mono}
 use Rattle.model.specs.Recording.{bit, link, Words, Clean}
@@ -128,9 +127,8 @@ differing_row l t u p q =
     ∙ many_ext (bit (bit_xor (get_or l u 0) (get_or t u 0))) (link_differs l t u) 32 (λ v h. bit-xor (get_or l u 0) (get_or t u 0) v)
 
 -- a turn of the loop: the bits of word u that differ are its links
-pub differing_turn : (l t : List ℕ) (u k n : ℕ) → u < n → k ≡ how_many_pairs (link_differs l t) 32 u → Fits w32 (get_or l u 0) → Fits w32 (get_or t u 0)
-    → k + ones (bit_xor (get_or (take n l) u 0) (get_or t u 0)) ≡ how_many_pairs (link_differs l t) 32 (u + 1)
-differing_turn l t u k n h e a b =
-    rw (get_or-take n l u 0) (row_counted (link_differs l t) 32 u e (differing_row l t u (omega arith) (omega arith)))
+pub differing_turn : (l t : List ℕ) (u k : ℕ) → k ≡ how_many_pairs (link_differs l t) 32 u → Fits w32 (get_or l u 0) → Fits w32 (get_or t u 0)
+    → k + ones (bit_xor (get_or l u 0) (get_or t u 0)) ≡ how_many_pairs (link_differs l t) 32 (u + 1)
+differing_turn l t u k e a b = row_counted (link_differs l t) 32 u e (differing_row l t u (omega arith) (omega arith))
 
-pub ruleset differs_turns = (pairs_none_yet, pairs_le, differing_turn, length-take-le)
+pub ruleset differs_turns = (pairs_none_yet, pairs_le, differing_turn)

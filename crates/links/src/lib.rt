@@ -1,7 +1,7 @@
 // Tables of links between n boards, 2 to 32: n words, bit v of word u for the pair u, v. Words are taken as they are found.
 #![tactic(auto)]
 
-ghost use Rattle.std.specs.Prelude.{◌≡◌, ◌≢◌, false, ℕ, ◌-◌, ◌*◌, ◌^◌, ◌≤◌, ◌<◌, T, length};
+ghost use Rattle.std.specs.Prelude.{◌≡◌, ◌≢◌, false, ℕ, ◌-◌, ◌*◌, ◌/◌, ◌^◌, ◌≤◌, ◌<◌, T, length};
 ghost use Rattle.model.specs.Recording.{bit};
 ghost use Rattle.lists.specs.Tab.{tab};
 ghost use Rattle.links.specs.Tables.{without, intersection, union, same, differing};
@@ -61,6 +61,48 @@ pub fn fill_rows(out: &mut [u32], boards: u32)
     }
 }
 
+// ---- picks as they are lent
+
+// Picks that are lent whole: m of them, n words each, one behind the other.
+#[derive(Clone, Copy)]
+pub struct Lent<'a> {
+    pub words: &'a [u32],
+    pub n: usize,
+    pub m: usize,
+    ghost room: { m * n ≤ length words.now },
+}
+
+impl<'a> Lent<'a> {
+    // As many as there are words for.
+    pub fn new(words: &'a [u32], n: usize) -> Self
+        requires { 1 ≤ n }
+        ensures { (result.words.now ≡ words.now) × (result.n ≡ n) × (result.m ≡ length words.now / n) }
+    {
+        Lent {
+            words,
+            n,
+            m: words.len() / n,
+        }
+    }
+
+    // The links of each of the picks after the first `from` join those of out; how many unions were made is counted.
+    #[tactic(auto, using(crate::proofs::Picks::unites), unfolding(crate::specs::Picks::united_picks))]
+    pub fn unite_picks(&self, out: &mut [u32], from: usize) -> usize
+        requires { self.now.n ≡ length out.old }
+        ensures { (result ≡ self.now.m - from) × (out.new ≡ united_picks self.now.n out.old self.now.words.now from (self.now.m - from)) }
+    {
+        let n = self.n;
+        let mut made: usize = 0;
+        // By number: `chunks_exact` wants n above 0.
+        for k in from..self.m {
+            let at = k * n;
+            unite_into(out, &self.words[at..at + n]);
+            made += 1;
+        }
+        made
+    }
+}
+
 // ---- compositions: each writes one table over the n words of out
 
 // The links open in either.
@@ -85,22 +127,6 @@ pub fn unite_into(t: &mut [u32], right: &[u32])
     }
 }
 
-// The links of each of the picks after the first `from` of m, n words each, join those of out; how many unions were made is counted.
-#[tactic(auto, using(crate::proofs::Picks::unites), unfolding(crate::specs::Picks::united_picks))]
-pub fn unite_picks(out: &mut [u32], words: &[u32], n: usize, from: usize, m: usize) -> usize
-    requires { (n ≡ length out.old) × (m * n ≤ length words.now) }
-    ensures { (result ≡ m - from) × (out.new ≡ united_picks n out.old words.now from (m - from)) }
-{
-    let mut made: usize = 0;
-    // By number: `chunks_exact` wants n above 0.
-    for k in from..m {
-        let at = k * n;
-        unite_into(out, &words[at..at + n]);
-        made += 1;
-    }
-    made
-}
-
 // Of the links of t, those stay that `right` has too. The loop of `unite_into` again: one with the operation passed in would be longer than both.
 #[tactic(auto, using(lists::proofs::Tab::made_all), unfolding(crate::specs::Tables::both_row, crate::specs::Tables::intersection))]
 pub fn intersect_into(t: &mut [u32], right: &[u32])
@@ -114,28 +140,28 @@ pub fn intersect_into(t: &mut [u32], right: &[u32])
 
 // ---- tests: the bits that differ are gathered, so that the loop has no branch
 
-// Whether two tables have the same n words.
+// Whether `right` begins with the words of `left`.
 #[tactic(auto, using(crate::proofs::Gather::gathers), unfolding(crate::specs::Tables::same))]
-pub fn is_same(left: &[u32], right: &[u32], n: usize) -> bool
-    requires { (n ≤ length left.now) × (n ≤ length right.now) }
-    ensures { result ≡ same n left.now right.now }
+pub fn is_same(left: &[u32], right: &[u32]) -> bool
+    requires { length left.now ≤ length right.now }
+    ensures { result ≡ same (length left.now) left.now right.now }
 {
     let mut bad = 0u32;
-    for (u, row) in left[..n].iter().enumerate() {
+    for (u, row) in left.iter().enumerate() {
         bad |= right[u] ^ *row;
     }
     bad == 0
 }
 
-// Whether the n words of a list are those of the union of left and right. The union is not written; one loop for both tests, with the other word
+// Whether the words of a list are those of the union of left and right. The union is not written; one loop for both tests, with the other word
 // passed in as a closure, would be longer than the two.
 #[tactic(auto, using(crate::proofs::Gather::gathers), unfolding(crate::specs::Tables::same))]
-pub fn is_union(list: &[u32], left: &[u32], right: &[u32], n: usize) -> bool
-    requires { (n ≤ length list.now) × ((n ≤ length left.now) × (n ≤ length right.now)) }
-    ensures { result ≡ same n list.now (union n left.now right.now) }
+pub fn is_union(list: &[u32], left: &[u32], right: &[u32]) -> bool
+    requires { (length list.now ≤ length left.now) × (length list.now ≤ length right.now) }
+    ensures { result ≡ same (length list.now) list.now (union (length list.now) left.now right.now) }
 {
     let mut bad = 0u32;
-    for (u, row) in list[..n].iter().enumerate() {
+    for (u, row) in list.iter().enumerate() {
         bad |= (left[u] | right[u]) ^ *row;
     }
     bad == 0
@@ -143,14 +169,14 @@ pub fn is_union(list: &[u32], left: &[u32], right: &[u32], n: usize) -> bool
 
 // ---- unmet conditions
 
-// How many links are in only one of two tables: the bits that differ, in whole words.
+// How many links of the words of `left` are in only one of the two: the bits that differ, in whole words.
 #[tactic(auto, using(crate::proofs::Unmet::differs_turns), unfolding(crate::specs::Tables::differing))]
-pub fn differing(left: &[u32], right: &[u32], n: usize) -> u32
-    requires { (n ≤ 32) × ((n ≤ length left.now) × (n ≤ length right.now)) }
-    ensures { result ≡ differing n left.now right.now }
+pub fn differing(left: &[u32], right: &[u32]) -> u32
+    requires { (length left.now ≤ 32) × (length left.now ≤ length right.now) }
+    ensures { result ≡ differing (length left.now) left.now right.now }
 {
     let mut k = 0u32;
-    for (u, row) in left[..n].iter().enumerate() {
+    for (u, row) in left.iter().enumerate() {
         k += (*row ^ right[u]).count_ones();
     }
     k

@@ -11,14 +11,13 @@ pub fn keep(x: u32, digit: u32) -> u32
     if digit == 1 { x } else { 0 }
 }
 
-// The first n words, or-ed.
+// The words, or-ed.
 #[tactic(auto, unfolding(crate::specs::Tab::any_of))]
-pub fn any_of(words: &[u32], n: usize) -> u32
-    requires { n ≤ length words.now }
-    ensures { result ≡ any_of (λ i. get_or words.now i 0) n }
+pub fn any_of(words: &[u32]) -> u32
+    ensures { result ≡ any_of (λ i. get_or words.now i 0) (length words.now) }
 {
     let mut any = 0u32;
-    for word in &words[..n] {
+    for word in words {
         any |= *word;
     }
     any

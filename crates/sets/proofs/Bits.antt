@@ -13,10 +13,11 @@ use borrow.Author.Tests.{eq-eqb, ne_eqb, eqb-true}
 use Rattle.model.proofs.Bits.{bit_high, bit-or, bit-and, bit-one, or_none}
 use Rattle.links.proofs.Bits.{bit_kept}
 use lib.Dec.{eqb}
-use lib.ListN.{get_or, take, drop}
+use lib.ListN.{length, get_or, take, drop}
 use lib.Seq.{get_or-take, get_or-drop}
 use Rattle.model.specs.Recording.{bit}
 use Rattle.times.specs.Times.{cell}
+use Rattle.times.proofs.Rows.{row_le, part_length}
 use Rattle.lists.specs.Tab.{tab, kept, zeros, any_of}
 use Rattle.lists.proofs.Many.{one_bit}
 use Rattle.lists.proofs.Tab.{get_or-tab, tab_ext, tab_zero, made_all}
@@ -38,8 +39,9 @@ unfolding marks
 marks_ext f g zero h = refl
 marks_ext f g (suc n) h = ap₂ (λ (x y : ℕ). bit_or x (mark_of y n)) (marks_ext f g n (λ v l. h v (omega arith))) (h n (omega arith))
 
-pub any_lent : (n u : ℕ) (half : List ℕ) → any_of (λ v. get_or (take (u * n + n - u * n) (drop (u * n) half)) v 0) n ≡ any_of (cell n half u) n
-any_lent n u half = any_ext _ _ n (row_cell n u half)
+pub any_lent : (n u : ℕ) (half : List ℕ) → u < n → n * n ≤ length half
+    → let r = take (u * n + n - u * n) (drop (u * n) half) in any_of (λ v. get_or r v 0) (length r) ≡ any_of (cell n half u) n
+any_lent n u half h l = rw (sym (part_length n (u * n) half (omega (arith, row_le n h)))) (any_ext _ _ n (row_cell n u half))
 
 pub set_lent : (n u some : ℕ) (half : List ℕ) → set_of (λ v. get_or (take (u * n + n - u * n) (drop (u * n) half)) v 0) n some u
     ≡ set_of (cell n half u) n some u

@@ -41,7 +41,7 @@ pub fn some_rows(half: &[u32], n: usize) -> u32
     // By number here and below: `chunks_exact` wants n above 0, and costs 2 per cent more instructions.
     for w in 0..n {
         let at = w * n;
-        set |= mark_of(lists::any_of(&half[at..at + n], n), Board(w));
+        set |= mark_of(lists::any_of(&half[at..at + n]), Board(w));
     }
     set
 }
