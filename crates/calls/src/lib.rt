@@ -1,7 +1,7 @@
 // The calls of the walk: opening, pick, length, whole run. None of the four requires anything; `whole_start` and `zero_needed`, which `decision` uses too, do.
 #![tactic(auto)]
 
-ghost use Rattle.std.specs.Prelude.{◌≡◌, ◌≢◌, ◌-◌, ◌*◌, ◌≤◌, length};
+ghost use Rattle.std.specs.Prelude.{◌≡◌, ◌≢◌, ◌-◌, ◌≤◌, length};
 ghost use Rattle.area.specs.Parts.{zeroed};
 ghost use Rattle.place.specs.Places.{charged};
 ghost use Rattle.verdicts.specs.Verdicts.{needed};
@@ -14,6 +14,7 @@ ghost use Rattle.calls.specs.Fit.{Starts, Begins, Ends};
 ghost use Rattle.calls.specs.Calls.{opened_area, open_says, open_leaves, pick_says, pick_leaves, report_says, length_says};
 ghost use Rattle.calls.specs.Calls.{unions, bare_steps, whole_report, whole_says, whole_leaves};
 
+use links::Lent;
 use model::Refusal;
 use place::{Counts, Place};
 use steps::Mode;
@@ -157,22 +158,24 @@ pub fn length(p: Place) -> Measured
 
 // ---- whole run
 
-// The union of m picks, from pick 1 on. Each pick after it is one union, and the unions that were made are charged.
-fn make_footprint(p: Place, words: &[u32], n: usize, m: usize, out: &mut [u32]) -> Place
-    requires { (n ≡ length out.old) × (n ≤ 32) × (1 ≤ m) × (m ≤ 4096) × (m * n ≤ length words.now) × (p.counts.compositions.0 ≡ 0) }
-    ensures { (result ≡ charged p (m - 1)) × (out.new ≡ unions n words.now m) }
+// The union of the picks. Each pick after the first is one union, and the unions that were made are charged.
+fn make_footprint(p: Place, lent: &Lent<'_>, out: &mut [u32]) -> Place
+    requires { (lent.now.n ≡ length out.old) × (1 ≤ lent.now.m) × (lent.now.m ≤ 4096) × (p.counts.compositions.0 ≡ 0) }
+    ensures { (result ≡ charged p (lent.now.m - 1)) × (out.new ≡ unions lent.now.n lent.now.words.now lent.now.m) }
 {
-    out.copy_from_slice(&words[..n]);
-    let made = links::unite_picks(out, words, n, 1, m);
+    out.copy_from_slice(&lent.words[..lent.n]);
+    let made = lent.unite_picks(out, 1);
     p.charged(made)
 }
 
 // The place that a whole run starts from, and all that the steps read of the area before they write it: the footprint. Only measure 2 has one, the
 // union of all picks, made in part m + 3.
-pub fn whole_start(n: usize, measure: usize, words: &[u32], m: usize, area: &mut [u32]) -> Place
-    requires { Runs n measure m words.now area.old }
-    ensures { Begins n measure m words.now area.old result area.new }
+pub fn whole_start(lent: &Lent<'_>, measure: usize, area: &mut [u32]) -> Place
+    requires { Runs lent.now.n measure lent.now.m lent.now.words.now area.old }
+    ensures { Begins lent.now.n measure lent.now.m lent.now.words.now area.old result area.new }
 {
+    let n = lent.n;
+    let m = lent.m;
     let p = Place::open(measure, n, m);
     if measure != 2 {
         area::zero_part(area, measure, n, m + 3);
@@ -180,19 +183,20 @@ pub fn whole_start(n: usize, measure: usize, words: &[u32], m: usize, area: &mut
     }
     let e = area::width(measure, n);
     let at = (m + 2) * e;
-    make_footprint(p, words, n, m, &mut area[at..at + n])
+    make_footprint(p, lent, &mut area[at..at + n])
 }
 
 // All picks, one after the other, by the unchecked step: a count that starts at m - 1 would be refused as 16. The area is not kept, and once measure 1
 // has ended the picks that are left only count.
-fn whole_steps(p: Place, area: &mut [u32], words: &[u32], m: usize) -> Place
-    requires { Starts p m words.now area.old × (1 ≤ p.settings.boards) }
-    ensures { Does (bare_steps (kit_of p.settings) p.settings.boards words.now m) p area.old result area.new
-        × Ends p m area.old result area.new }
+fn whole_steps(p: Place, area: &mut [u32], lent: &Lent<'_>) -> Place
+    requires { Starts p lent.now.m lent.now.words.now area.old × (1 ≤ p.settings.boards) }
+    ensures { Does (bare_steps (kit_of p.settings) p.settings.boards lent.now.words.now lent.now.m) p area.old result area.new
+        × Ends p lent.now.m area.old result area.new }
 {
     let n = p.settings.boards;
+    let m = lent.m;
     let mut q = p;
-    for pick in words[..m * n].chunks_exact(n) {
+    for pick in lent.words[..m * n].chunks_exact(n) {
         if steps::is_finished(q) {
             return q.picks_taken(m - q.window.taken.0);
         }
@@ -202,14 +206,14 @@ fn whole_steps(p: Place, area: &mut [u32], words: &[u32], m: usize) -> Place
 }
 
 // A whole run that nothing refuses. It never reads what the area held, and the needed words end zero.
-fn whole_run(n: usize, measure: usize, words: &[u32], m: usize, area: &mut [u32]) -> Answer
-    requires { Runs n measure m words.now area.old }
-    ensures { (answer_says result ≡ whole_report n measure m words.now area.old)
-        × (area.new ≡ zeroed (needed measure n m) area.old) }
+fn whole_run(lent: &Lent<'_>, measure: usize, area: &mut [u32]) -> Answer
+    requires { Runs lent.now.n measure lent.now.m lent.now.words.now area.old }
+    ensures { (answer_says result ≡ whole_report lent.now.n measure lent.now.m lent.now.words.now area.old)
+        × (area.new ≡ zeroed (needed measure lent.now.n lent.now.m) area.old) }
 {
-    let p = whole_start(n, measure, words, m, area);
-    let q = whole_steps(p, area, words, m);
-    zero_needed(n, measure, m, area);
+    let p = whole_start(lent, measure, area);
+    let q = whole_steps(p, area, lent);
+    zero_needed(lent.n, measure, lent.m, area);
     report(q)
 }
 
@@ -220,7 +224,7 @@ pub fn whole(n: usize, measure: usize, words: &[u32], area: &mut [u32]) -> Answe
         × (area.new ≡ whole_leaves n measure words.now area.old) }
 {
     match verdicts::whole_verdict(n, measure, words, area) {
-        Ok(()) => whole_run(n, measure, words, words.len() / n, area),
+        Ok(()) => whole_run(&Lent::new(words, n), measure, area),
         Err(cause) => Answer::refused(cause),
     }
 }

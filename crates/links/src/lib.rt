@@ -140,15 +140,15 @@ pub fn intersect_into(t: &mut [u32], right: &[u32])
 
 // ---- tests: the bits that differ are gathered, so that the loop has no branch
 
-// Whether `right` begins with the words of `left`.
+// Whether `left` begins with the words of `right`.
 #[tactic(auto, using(crate::proofs::Gather::gathers), unfolding(crate::specs::Tables::same))]
 pub fn is_same(left: &[u32], right: &[u32]) -> bool
-    requires { length left.now ≤ length right.now }
-    ensures { result ≡ same (length left.now) left.now right.now }
+    requires { length right.now ≤ length left.now }
+    ensures { result ≡ same (length right.now) left.now right.now }
 {
     let mut bad = 0u32;
-    for (u, row) in left.iter().enumerate() {
-        bad |= right[u] ^ *row;
+    for (u, row) in right.iter().enumerate() {
+        bad |= *row ^ left[u];
     }
     bad == 0
 }

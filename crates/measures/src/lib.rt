@@ -84,7 +84,7 @@ pub fn passes(footprint: &[u32], t: &[u32], measure: usize, n: usize, turn: u32)
     match measure {
         4 => times::in_time(t, n, turn),
         3 => searches::is_full(t, n),
-        2 => links::is_same(t, footprint),
+        2 => links::is_same(footprint, t),
         _ => searches::is_connected(t, n),
     }
 }

@@ -1,7 +1,7 @@
 // What the checks of opening, pick and whole run find, cause by cause in document 01's order. The three verdicts require nothing.
 #![tactic(auto)]
 
-ghost use Rattle.std.specs.Prelude.{◌≡◌, [], ◌∷◌, ◌+◌, ◌*◌, ◌≤◌, length, ltb};
+ghost use Rattle.std.specs.Prelude.{◌≡◌, [], ◌∷◌, ◌+◌, ◌≤◌, length, ltb};
 ghost use Rattle.checks.specs.Checks.{listed};
 ghost use Rattle.measures.specs.Kit.{kit};
 ghost use Rattle.area.specs.Parts.{table_at};
@@ -9,6 +9,7 @@ ghost use Rattle.model.specs.Causes.{first_of};
 ghost use Rattle.verdicts.specs.Verdicts.{needed, lent_causes, run_causes, window_causes};
 ghost use Rattle.verdicts.specs.Verdicts.{open_verdict, pick_verdict, whole_verdict, verdict_says};
 
+use links::Lent;
 use model::Refusal;
 use place::Place;
 
@@ -87,7 +88,7 @@ pub fn open_verdict(
     if footprint.len() != n {
         return Err(Refusal::Shape);
     }
-    if !checks::is_clean(footprint, n) {
+    if !checks::is_clean(footprint) {
         return Err(Refusal::Forbidden);
     }
     room_verdict(area, measure, n, limit)
@@ -102,7 +103,7 @@ fn is_listed(area: &[u32], words: &[u32], measure: usize, n: usize, limit: usize
 {
     let e = area::width(measure, n);
     let at = (limit + 2) * e;
-    checks::is_listed(&area[at..at + n], words, n)
+    checks::is_listed(&area[at..at + n], words)
 }
 
 // The causes of a pick, in their order: 16, 7, 10, 5, 4, 6.
@@ -122,7 +123,7 @@ pub fn pick_verdict(p: Place, area: &[u32], words: &[u32]) -> Result<(), Refusal
     if words.len() != n {
         return Err(Refusal::Shape);
     }
-    if !checks::is_clean(words, n) {
+    if !checks::is_clean(words) {
         return Err(Refusal::Forbidden);
     }
     if is_short(area, measure, n, limit) {
@@ -141,20 +142,14 @@ pub fn pick_verdict(p: Place, area: &[u32], words: &[u32]) -> Result<(), Refusal
 
 // The causes after those of every lent recording: 4, 5.
 #[tactic(auto, unfolding(model::specs::Causes::first_of))]
-fn run_verdict(
-    n: usize,
-    measure: usize,
-    words: &[u32],
-    m: usize,
-    area: &[u32],
-) -> Result<(), Refusal>
-    requires { (n ≤ 32) × (m ≤ 4096) × (m * n ≤ length words.now) }
-    ensures { verdict_says result ≡ first_of (run_causes n measure words.now m area.now) }
+fn run_verdict(lent: &Lent<'_>, measure: usize, area: &[u32]) -> Result<(), Refusal>
+    requires { (lent.now.n ≤ 32) × (lent.now.m ≤ 4096) }
+    ensures { verdict_says result ≡ first_of (run_causes lent.now.n measure lent.now.words.now lent.now.m area.now) }
 {
-    if is_short(area, measure, n, m) {
+    if is_short(area, measure, lent.n, lent.m) {
         return Err(Refusal::Room);
     }
-    if !checks::are_clean(words, n, m) {
+    if !checks::are_clean(lent) {
         return Err(Refusal::Forbidden);
     }
     Ok(())
@@ -172,7 +167,7 @@ pub fn whole_verdict(n: usize, measure: usize, words: &[u32], area: &[u32]) -> R
         return Err(Refusal::Measure);
     }
     lent_verdict(words, n)?;
-    run_verdict(n, measure, words, words.len() / n, area)
+    run_verdict(&Lent::new(words, n), measure, area)
 }
 
 // ---- a window length

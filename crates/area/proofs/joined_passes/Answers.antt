@@ -1,10 +1,12 @@
 -- `area::joined_passes` meets its contract, measure by measure.
 -- Assumes nothing.
 use mathlib.Core.Path.{◌∙◌, sym}
+use Prim.Native.Nat.{◌-◌, ◌*◌}
 use native.Mathlib.Nat.{add-sub_cancel_left}
 use native.Mathlib.Omega.{arith}
 use Rattle.measures.proofs.Words.{size_links, pass-reach, pass-union}
 use Rattle.measures.specs.Kit.{kit}
+use Rattle.area.proofs.Cut.{lent_words}
 use Rattle.area.proofs.Lent.{lies_links}
 use Rattle.area.proofs.Stored.{table_lent}
 use Rattle.area.proofs.joined_passes.Goals as goal
@@ -87,6 +89,7 @@ returns c =
     let k = sym (size_links c.args.measure c.args.n c.requires.1) in
     let K = kit c.args.measure c.args.n in
     let a = c.args.area.now in
+    let long = lent_words ((c.args.footprint - 1) * c.width-e.result) c.args.n a (lies_links _ _ c.requires.1 e c.requires.3) in
     simp (add-sub_cancel_left, table_lent K a c.args.footprint e k, table_lent K a c.args.l e k, table_lent K a c.args.r e k)
-    at c.is_union.ensures
+    at (rw long at c.is_union.ensures)
     ∙ pass-union _ _ _ _ _ _ (c.requires.2 c.if-measure-eq3.false)

@@ -1,4 +1,4 @@
--- `calls::make_footprint` meets its contract: what `links::unite_picks` makes of pick 1 is `unions` (`unions_made`).
+-- `calls::make_footprint` meets its contract: what `Lent::unite_picks` makes of pick 1 is `unions` (`unions_made`).
 -- Assumes nothing.
 use mathlib.Core.Path.{ap, ◌∙◌}
 use Rattle.place.specs.Places.{charged}
@@ -8,5 +8,5 @@ use Rattle.calls.proofs.make_footprint.Goals as goal
 pub returns : goal.returns
 returns c = (
   c.charged.ensures ∙ ap (charged c.args.p) c.unite_picks-made.ensures.0,
-  unions_made _ _ _ _ _ c.requires.2 c.copy_from_slice.ensures.after c.unite_picks-made.ensures.1,
+  unions_made _ _ _ _ _ c.requires.1 c.copy_from_slice.ensures.after c.unite_picks-made.ensures.1,
 )

@@ -14,7 +14,7 @@ unfolding whole_start charged fresh
 whole_steps-q-requires c =
     let b = c.requires.some_boards in
     let e = ap (λ (x : Place). x.settings.boards) c.whole_start-p.ensures.place in (
-      whole_starts _ _ _ _ _ _ c.requires (list-cost c.args.measure c.args.m c.requires.cap) c.whole_start-p.ensures.place
+      whole_starts _ _ _ _ _ _ c.requires (list-cost c.args.measure c.args.lent.now.m c.requires.cap) c.whole_start-p.ensures.place
           c.whole_start-p.auto.area,
       omega arith,
     )
@@ -24,8 +24,8 @@ unfolding whole_report
 returns c =
     let b = c.whole_start-p.ensures in (
       c.report.ensures ∙ ap (λ (x : Place). report_says (reported x) x)
-          (whole_ends c.args.n c.args.measure c.args.m c.args.words.now c.args.area.now c.requires b c.whole_start-p.auto.area
+          (whole_ends c.args.lent.now.n c.args.measure c.args.lent.now.m c.args.lent.now.words.now c.args.area.now c.requires b c.whole_start-p.auto.area
           c.whole_steps-q.ensures.0),
-      c.zero_needed.ensures ∙ whole_beyond c.args.n c.args.measure c.args.m c.args.words.now c.args.area.now _ b
+      c.zero_needed.ensures ∙ whole_beyond c.args.lent.now.n c.args.measure c.args.lent.now.m c.args.lent.now.words.now c.args.area.now _ b
           c.whole_steps-q.ensures.1.beyond,
     )

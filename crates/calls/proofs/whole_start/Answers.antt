@@ -12,27 +12,25 @@ use Rattle.calls.proofs.whole_start.Goals as goal
 
 pub returns-then-measure-ne2 : goal.returns-then-measure-ne2
 returns-then-measure-ne2 c =
-    start_other c.args.n c.args.measure c.args.m _ _ c.requires c.if-measure-ne2.true
+    start_other c.args.lent.now.n c.args.measure c.args.lent.now.m _ _ c.requires c.if-measure-ne2.true
     c.open-p.ensures c.zero_part.ensures
 
 pub slice_bounds-make_footprint-end : goal.slice_bounds-make_footprint-end
 slice_bounds-make_footprint-end c =
-    omega (arith, third_room c.args.measure c.args.n c.args.m _ c.if-measure-ne2.false c.width-e.ensures c.requires.room)
+    omega (arith, third_room c.args.measure c.args.lent.now.n c.args.lent.now.m _ c.if-measure-ne2.false c.width-e.ensures c.requires.room)
 
 pub make_footprint-requires : goal.make_footprint-requires
 unfolding fresh
 make_footprint-requires c =
-    let r = third_room c.args.measure c.args.n c.args.m _ c.if-measure-ne2.false c.width-e.ensures c.requires.room in (
+    let r = third_room c.args.measure c.args.lent.now.n c.args.lent.now.m _ c.if-measure-ne2.false c.width-e.ensures c.requires.room in (
       search rules,
-      c.requires.few,
       c.requires.some_picks,
       c.requires.cap,
-      omega (arith, c.requires.words),
       ap (λ (x : Place). x.counts.compositions.0) c.open-p.ensures,
     )
 
 pub returns : goal.returns
 returns c =
-    start_footprint c.args.n c.args.measure c.args.m _ _ c.requires c.if-measure-ne2.false c.width-e.ensures c.open-p.ensures
+    start_footprint c.args.lent.now.n c.args.measure c.args.lent.now.m _ _ c.requires c.if-measure-ne2.false c.width-e.ensures c.open-p.ensures
     c.make_footprint.ensures
     (written-part _ _ _ refl)

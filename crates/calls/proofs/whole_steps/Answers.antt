@@ -17,7 +17,7 @@ pub returns-then-is_finished : goal.returns-then-is_finished
 returns-then-is_finished c =
     let v = c.loop-pick.invariant.1.1 in
     along_finished v.after v.stepped v.after.low (sym c.is_finished.ensures ∙ c.if-is_finished.true)
-    (c.picks_taken.ensures ∙ ap (λ (x : ℕ). picks_taken c.loop-pick.q (c.args.m - x)) v.after.taken)
+    (c.picks_taken.ensures ∙ ap (λ (x : ℕ). picks_taken c.loop-pick.q (c.args.lent.now.m - x)) v.after.taken)
 
 pub step-q-requires : goal.step-q-requires
 step-q-requires c =

@@ -8,4 +8,4 @@ use Rattle.calls.proofs.whole_steps.Given as goal
 abbrev pub invariant-loop-pick : goal.invariant-loop-pick
 invariant-loop-pick l =
     (l.pick-iterator.size ≡ l.fn.p.settings.boards)
-    × ((k : ℕ) × Bared l.fn.p l.words l.initial.area l.m k l.pick-iterator.rest.now l.q l.area)
+    × ((k : ℕ) × Bared l.fn.p l.lent.words.now l.initial.area l.lent.m k l.pick-iterator.rest.now l.q l.area)

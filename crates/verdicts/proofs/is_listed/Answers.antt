@@ -1,6 +1,6 @@
 -- `verdicts::is_listed` meets its contract.
 -- Assumes nothing.
-use mathlib.Core.Path.{ap, ◌∙◌}
+use mathlib.Core.Path.{sym, ap, ◌∙◌}
 use mathlib.Core.List.{List}
 use Prim.Native.Nat.{ℕ}
 use native.Mathlib.Omega.{arith}
@@ -13,6 +13,6 @@ slice_bounds-is_listed-end c = omega (arith, third_room _ _ _ _ c.requires.2 c.w
 
 pub returns : goal.returns
 returns c =
-    c.is_listed.ensures
+    rw (sym c.requires.3) at c.is_listed.ensures
     ∙ ap (λ (x : List ℕ). listed c.args.n x c.args.words.now)
     (third_lent c.args.measure c.args.n _ _ c.requires.2 c.width-e.ensures)
