@@ -10,6 +10,7 @@ ghost use Rattle.calls.specs.Fit.{Starts};
 ghost use Rattle.decision.specs.Fit.{Leaves};
 ghost use Rattle.decision.specs.Decisions.{decided_as, decision_says, decision_verdict, decided_at, decision_report, decide_says, decide_leaves};
 
+use links::Lent;
 use model::Refusal;
 use place::{Counts, Place};
 use steps::Mode;
@@ -39,13 +40,13 @@ fn decision_verdict(
 // ---- the walk held at k
 
 // The picks up to the first failure, or all. The area is not kept.
-fn hold_picks(p: Place, area: &mut [u32], words: &[u32], m: usize, k: usize) -> Place
-    requires { Starts p m words.now area.old × (1 ≤ k) × (1 ≤ p.settings.boards) }
-    ensures { Leaves p k m words.now area.old result area.new }
+fn hold_picks(p: Place, area: &mut [u32], lent: &Lent<'_>, k: usize) -> Place
+    requires { Starts p lent.now.m lent.now.words.now area.old × (1 ≤ k) × (1 ≤ p.settings.boards) }
+    ensures { Leaves p k lent.now.m lent.now.words.now area.old result area.new }
 {
     let n = p.settings.boards;
     let mut q = p;
-    for pick in words[..m * n].chunks_exact(n) {
+    for pick in lent.words[..lent.m * n].chunks_exact(n) {
         if q.marks.failed {
             return q;
         }
@@ -67,21 +68,14 @@ fn answer_at(p: Place) -> Decision
 }
 
 // A decision that nothing refuses. It never reads what the area held, and the needed words end zero.
-fn decide_run(
-    n: usize,
-    measure: usize,
-    words: &[u32],
-    m: usize,
-    k: usize,
-    area: &mut [u32],
-) -> Decision
-    requires { Runs n measure m words.now area.old × (1 ≤ k) }
-    ensures { (decided_as result ≡ decision_report n measure m words.now k area.old)
-        × (area.new ≡ zeroed (needed measure n m) area.old) }
+fn decide_run(lent: &Lent<'_>, measure: usize, k: usize, area: &mut [u32]) -> Decision
+    requires { Runs lent.now.n measure lent.now.m lent.now.words.now area.old × (1 ≤ k) }
+    ensures { (decided_as result ≡ decision_report lent.now.n measure lent.now.m lent.now.words.now k area.old)
+        × (area.new ≡ zeroed (needed measure lent.now.n lent.now.m) area.old) }
 {
-    let p = calls::whole_start(n, measure, words, m, area);
-    let q = hold_picks(p, area, words, m, k);
-    calls::zero_needed(n, measure, m, area);
+    let p = calls::whole_start(lent, measure, area);
+    let q = hold_picks(p, area, lent, k);
+    calls::zero_needed(lent.n, measure, lent.m, area);
     answer_at(q)
 }
 
@@ -98,5 +92,5 @@ pub fn decide(
         × (area.new ≡ decide_leaves n measure words.now k area.old) }
 {
     decision_verdict(n, measure, words, k, area)?;
-    Ok(decide_run(n, measure, words, words.len() / n, k, area))
+    Ok(decide_run(&Lent::new(words, n), measure, k, area))
 }

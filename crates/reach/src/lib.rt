@@ -1,7 +1,7 @@
 // The call for the table of reach: bit b of word a is set when a journey leads from a to b in the whole recording.
 #![tactic(auto)]
 
-ghost use Rattle.std.specs.Prelude.{◌≡◌, ◌*◌, ◌≤◌, length};
+ghost use Rattle.std.specs.Prelude.{◌≡◌, ◌≤◌, length};
 ghost use Rattle.links.specs.Tables.{compose, within};
 ghost use Rattle.links.specs.Composed.{reach};
 ghost use Rattle.checks.specs.Lent.{lent_picks};
@@ -10,6 +10,7 @@ ghost use Rattle.verdicts.specs.Verdicts.{verdict_says};
 ghost use Rattle.model.specs.Causes.{first_of};
 ghost use Rattle.reach.specs.Tables.{out_causes, table_verdict, table_leaves};
 
+use links::Lent;
 use model::Refusal;
 
 // The table takes in one pick more: the pick's own table is composed onto it.
@@ -21,27 +22,28 @@ fn add_pick(out: &mut [u32], pick: &[u32], n: usize)
     joins::join_over(out, &own[0..n], n);
 }
 
-// The table of m picks, from the first one on.
-fn write_table(out: &mut [u32], words: &[u32], n: usize, m: usize)
-    requires { (1 ≤ n) × ((n ≤ 32) × ((n ≡ length out.old) × ((1 ≤ m) × ((m ≤ 4096) × (m * n ≤ length words.now))))) }
-    ensures { out.new ≡ reach n hops01 (lent_picks n words.now m) }
+// The table of the picks, from the first one on.
+fn write_table(out: &mut [u32], lent: &Lent<'_>)
+    requires { (1 ≤ lent.now.n) × (lent.now.n ≤ 32) × (lent.now.n ≡ length out.old) × (1 ≤ lent.now.m) }
+    ensures { out.new ≡ reach lent.now.n hops01 (lent_picks lent.now.n lent.now.words.now lent.now.m) }
 {
-    joins::close_over(out, &words[..n], n);
-    for pick in words[n..m * n].chunks_exact(n) {
+    let n = lent.n;
+    joins::close_over(out, &lent.words[..n], n);
+    for pick in lent.words[n..lent.m * n].chunks_exact(n) {
         add_pick(out, pick, n);
     }
 }
 
 // The causes after those of every lent recording: 4, 5.
 #[tactic(auto, unfolding(model::specs::Causes::first_of))]
-fn out_verdict(n: usize, words: &[u32], m: usize, out: &[u32]) -> Result<(), Refusal>
-    requires { (n ≤ 32) × (m ≤ 4096) × (m * n ≤ length words.now) }
-    ensures { verdict_says result ≡ first_of (out_causes n words.now m out.now) }
+fn out_verdict(lent: &Lent<'_>, out: &[u32]) -> Result<(), Refusal>
+    requires { lent.now.n ≤ 32 }
+    ensures { verdict_says result ≡ first_of (out_causes lent.now.n lent.now.words.now lent.now.m out.now) }
 {
-    if out.len() < n {
+    if out.len() < lent.n {
         return Err(Refusal::Room);
     }
-    if !checks::are_clean(words, n, m) {
+    if !checks::are_clean(lent) {
         return Err(Refusal::Forbidden);
     }
     Ok(())
@@ -56,7 +58,7 @@ fn table_verdict(n: usize, words: &[u32], out: &[u32]) -> Result<(), Refusal>
         return Err(Refusal::Boards);
     }
     verdicts::lent_verdict(words, n)?;
-    out_verdict(n, words, words.len() / n, out)
+    out_verdict(&Lent::new(words, n), out)
 }
 
 // The table of a recording lent whole, n words a pick, into the first n words of out.
@@ -65,6 +67,6 @@ pub fn table(n: usize, words: &[u32], out: &mut [u32]) -> Result<(), Refusal>
     ensures { (verdict_says result ≡ table_verdict n words.now out.old) × (out.new ≡ table_leaves n words.now out.old) }
 {
     table_verdict(n, words, out)?;
-    write_table(&mut out[..n], words, n, words.len() / n);
+    write_table(&mut out[..n], &Lent::new(words, n));
     Ok(())
 }

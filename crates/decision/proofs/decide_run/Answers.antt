@@ -15,7 +15,7 @@ unfolding whole_start charged fresh
 hold_picks-q-requires c =
     let b = c.requires.0.some_boards in
     let e = ap (λ (x : Place). x.settings.boards) c.whole_start-p.ensures.place in (
-      whole_starts _ _ _ _ _ _ c.requires.0 (list-cost c.args.measure c.args.m c.requires.0.cap) c.whole_start-p.ensures.place
+      whole_starts _ _ _ _ _ _ c.requires.0 (list-cost c.args.measure c.args.lent.now.m c.requires.0.cap) c.whole_start-p.ensures.place
           c.whole_start-p.auto.area,
       c.requires.1,
       omega arith,
@@ -25,8 +25,8 @@ pub returns : goal.returns
 unfolding decision_report
 returns c =
     let b = c.whole_start-p.ensures in (
-      c.answer_at.ensures ∙ ap decided_at (held_ends c.args.n c.args.measure c.args.m c.args.k c.args.words.now c.args.area.now
+      c.answer_at.ensures ∙ ap decided_at (held_ends c.args.lent.now.n c.args.measure c.args.lent.now.m c.args.k c.args.lent.now.words.now c.args.area.now
           c.requires.0 c.requires.1 b c.whole_start-p.auto.area c.hold_picks-q.ensures.does),
-      c.zero_needed.ensures ∙ whole_beyond c.args.n c.args.measure c.args.m c.args.words.now c.args.area.now _ b
+      c.zero_needed.ensures ∙ whole_beyond c.args.lent.now.n c.args.measure c.args.lent.now.m c.args.lent.now.words.now c.args.area.now _ b
           c.hold_picks-q.ensures.beyond,
     )

@@ -8,4 +8,4 @@ use Rattle.decision.proofs.hold_picks.Given as goal
 abbrev pub invariant-loop-pick : goal.invariant-loop-pick
 invariant-loop-pick l =
     (l.pick-iterator.size ≡ l.fn.p.settings.boards)
-    × ((j : ℕ) × Holding l.fn.p l.words l.initial.area l.m l.k j l.pick-iterator.rest.now l.q l.area)
+    × ((j : ℕ) × Holding l.fn.p l.lent.words.now l.initial.area l.lent.m l.k j l.pick-iterator.rest.now l.q l.area)

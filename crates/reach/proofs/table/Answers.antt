@@ -18,10 +18,12 @@ write_table-requires c =
     let e : table_verdict c.args.n c.args.words.now c.args.out.now ≡ 0 = search rules in
     let t = table_sound _ _ _ e in
     let b = t.some_boards in
-    let w = t.words in
-    (omega arith, (t.few, (sym (length-take-le c.args.n c.args.out.now t.room), (t.some_picks, (t.cap, omega arith)))))
+    let l = c.new.ensures in
+    rw (l.1, l.2) (omega arith, t.few, sym (length-take-le c.args.n c.args.out.now t.room), t.some_picks)
 
 pub returns : goal.returns
 unfolding table_leaves table_of
 returns c =
-    let e : table_verdict c.args.n c.args.words.now c.args.out.now ≡ 0 = search rules in (sym e, simp (e, c.write_table.ensures))
+    let e : table_verdict c.args.n c.args.words.now c.args.out.now ≡ 0 = search rules in
+    let l = c.new.ensures in
+    (sym e, simp (e, rw (l.0, l.1, l.2) at c.write_table.ensures))

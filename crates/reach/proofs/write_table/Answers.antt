@@ -9,8 +9,8 @@ pub loop-pick-init : goal.loop-pick-init
 loop-pick-init c = rw c.into_iter-pick-iterator.ensures.into_iter_gives (
   c.chunks_exact-pick-items.ensures.size,
   (
-    c.close_over.auto.out ∙ sym c.requires.1.1.0,
-    (1, rw c.chunks_exact-pick-items.ensures.rest (reached_first c.requires.1.1.1.0 c.close_over.ensures)),
+    c.close_over.auto.out ∙ sym c.requires.2,
+    (1, rw c.chunks_exact-pick-items.ensures.rest (reached_first c.requires.3 c.close_over.ensures)),
   ),
 )
 
@@ -21,10 +21,10 @@ loop-pick-preserved c =
       s.0 ∙ i.0,
       (
         c.add_pick.auto.out ∙ i.1.0,
-        (i.1.1.0 + 1, reached_turn _ c.requires.1.1.1.1.1 c.requires.0 i.1.1.1 s.1.0 (s.1.1 ∙ i.0) c.add_pick.ensures),
+        (i.1.1.0 + 1, reached_turn _ c.args.lent.now.room c.requires.0 i.1.1.1 s.1.0 (s.1.1 ∙ i.0) c.add_pick.ensures),
       ),
     )
 
 pub returns : goal.returns
 returns c =
-    let i = c.loop-pick.invariant in reached_all c.requires.1.1.1.1.1 i.1.1.1 (rw i.0 at c.in-None.ensures.steps.1.0)
+    let i = c.loop-pick.invariant in reached_all c.args.lent.now.room i.1.1.1 (rw i.0 at c.in-None.ensures.steps.1.0)
