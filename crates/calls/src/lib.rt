@@ -14,7 +14,7 @@ ghost use Rattle.calls.specs.Fit.{Starts, Begins, Ends};
 ghost use Rattle.calls.specs.Calls.{opened_area, open_says, open_leaves, pick_says, pick_leaves, report_says, length_says};
 ghost use Rattle.calls.specs.Calls.{unions, bare_steps, whole_report, whole_says, whole_leaves};
 
-use links::Lent;
+use links::LentPicks;
 use model::Refusal;
 use place::{Counts, Place};
 use steps::Mode;
@@ -159,7 +159,7 @@ pub fn length(p: Place) -> Measured
 // ---- whole run
 
 // The union of the picks. Each pick after the first is one union, and the unions that were made are charged.
-fn make_footprint(p: Place, lent: &Lent<'_>, out: &mut [u32]) -> Place
+fn make_footprint(p: Place, lent: &LentPicks<'_>, out: &mut [u32]) -> Place
     requires { (lent.now.n ≡ length out.old) × (1 ≤ lent.now.m) × (lent.now.m ≤ 4096) × (p.counts.compositions.0 ≡ 0) }
     ensures { (result ≡ charged p (lent.now.m - 1)) × (out.new ≡ unions lent.now.n lent.now.words.now lent.now.m) }
 {
@@ -170,7 +170,7 @@ fn make_footprint(p: Place, lent: &Lent<'_>, out: &mut [u32]) -> Place
 
 // The place that a whole run starts from, and all that the steps read of the area before they write it: the footprint. Only measure 2 has one, the
 // union of all picks, made in part m + 3.
-pub fn whole_start(lent: &Lent<'_>, measure: usize, area: &mut [u32]) -> Place
+pub fn whole_start(lent: &LentPicks<'_>, measure: usize, area: &mut [u32]) -> Place
     requires { Runs lent.now.n measure lent.now.m lent.now.words.now area.old }
     ensures { Begins lent.now.n measure lent.now.m lent.now.words.now area.old result area.new }
 {
@@ -188,7 +188,7 @@ pub fn whole_start(lent: &Lent<'_>, measure: usize, area: &mut [u32]) -> Place
 
 // All picks, one after the other, by the unchecked step: a count that starts at m - 1 would be refused as 16. The area is not kept, and once measure 1
 // has ended the picks that are left only count.
-fn whole_steps(p: Place, area: &mut [u32], lent: &Lent<'_>) -> Place
+fn whole_steps(p: Place, area: &mut [u32], lent: &LentPicks<'_>) -> Place
     requires { Starts p lent.now.m lent.now.words.now area.old × (1 ≤ p.settings.boards) }
     ensures { Does (bare_steps (kit_of p.settings) p.settings.boards lent.now.words.now lent.now.m) p area.old result area.new
         × Ends p lent.now.m area.old result area.new }
@@ -206,7 +206,7 @@ fn whole_steps(p: Place, area: &mut [u32], lent: &Lent<'_>) -> Place
 }
 
 // A whole run that nothing refuses. It never reads what the area held, and the needed words end zero.
-fn whole_run(lent: &Lent<'_>, measure: usize, area: &mut [u32]) -> Answer
+fn whole_run(lent: &LentPicks<'_>, measure: usize, area: &mut [u32]) -> Answer
     requires { Runs lent.now.n measure lent.now.m lent.now.words.now area.old }
     ensures { (answer_says result ≡ whole_report lent.now.n measure lent.now.m lent.now.words.now area.old)
         × (area.new ≡ zeroed (needed measure lent.now.n lent.now.m) area.old) }
@@ -224,7 +224,7 @@ pub fn whole(n: usize, measure: usize, words: &[u32], area: &mut [u32]) -> Answe
         × (area.new ≡ whole_leaves n measure words.now area.old) }
 {
     match verdicts::whole_verdict(n, measure, words, area) {
-        Ok(()) => whole_run(&Lent::new(words, n), measure, area),
+        Ok(()) => whole_run(&LentPicks::new(words, n), measure, area),
         Err(cause) => Answer::refused(cause),
     }
 }

@@ -6,7 +6,7 @@ ghost use Rattle.lists.specs.Tab.{zeros, splice};
 ghost use Rattle.checks.specs.Checks.{allowed, clean, listed, all_open};
 ghost use Rattle.checks.specs.Lent.{clean_picks};
 
-use links::Lent;
+use links::LentPicks;
 use model::Board;
 
 // The allowed bits for each number of boards n, 0 to 32: those below n. Row a of n boards may hold them all but bit a. A table of constants is a
@@ -70,7 +70,7 @@ fn all_open(n: usize) -> [u32; 32]
 
 // Whether none of the picks has a forbidden bit. Their union has a bit exactly where some pick has it, so it is asked of the union, once.
 #[tactic(auto, using(crate::proofs::United::unions))]
-pub fn are_clean(lent: &Lent<'_>) -> bool
+pub fn are_clean(lent: &LentPicks<'_>) -> bool
     requires { lent.now.n ≤ 32 }
     ensures { result ≡ clean_picks lent.now.n lent.now.words.now lent.now.m }
 {

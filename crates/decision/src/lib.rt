@@ -10,7 +10,7 @@ ghost use Rattle.calls.specs.Fit.{Starts};
 ghost use Rattle.decision.specs.Fit.{Leaves};
 ghost use Rattle.decision.specs.Decisions.{decided_as, decision_says, decision_verdict, decided_at, decision_report, decide_says, decide_leaves};
 
-use links::Lent;
+use links::LentPicks;
 use model::Refusal;
 use place::{Counts, Place};
 use steps::Mode;
@@ -40,7 +40,7 @@ fn decision_verdict(
 // ---- the walk held at k
 
 // The picks up to the first failure, or all. The area is not kept.
-fn hold_picks(p: Place, area: &mut [u32], lent: &Lent<'_>, k: usize) -> Place
+fn hold_picks(p: Place, area: &mut [u32], lent: &LentPicks<'_>, k: usize) -> Place
     requires { Starts p lent.now.m lent.now.words.now area.old × (1 ≤ k) × (1 ≤ p.settings.boards) }
     ensures { Leaves p k lent.now.m lent.now.words.now area.old result area.new }
 {
@@ -68,7 +68,7 @@ fn answer_at(p: Place) -> Decision
 }
 
 // A decision that nothing refuses. It never reads what the area held, and the needed words end zero.
-fn decide_run(lent: &Lent<'_>, measure: usize, k: usize, area: &mut [u32]) -> Decision
+fn decide_run(lent: &LentPicks<'_>, measure: usize, k: usize, area: &mut [u32]) -> Decision
     requires { Runs lent.now.n measure lent.now.m lent.now.words.now area.old × (1 ≤ k) }
     ensures { (decided_as result ≡ decision_report lent.now.n measure lent.now.m lent.now.words.now k area.old)
         × (area.new ≡ zeroed (needed measure lent.now.n lent.now.m) area.old) }
@@ -92,5 +92,5 @@ pub fn decide(
         × (area.new ≡ decide_leaves n measure words.now k area.old) }
 {
     decision_verdict(n, measure, words, k, area)?;
-    Ok(decide_run(&Lent::new(words, n), measure, k, area))
+    Ok(decide_run(&LentPicks::new(words, n), measure, k, area))
 }

@@ -65,20 +65,20 @@ pub fn fill_rows(out: &mut [u32], boards: u32)
 
 // Picks that are lent whole: m of them, n words each, one behind the other.
 #[derive(Clone, Copy)]
-pub struct Lent<'a> {
+pub struct LentPicks<'a> {
     pub words: &'a [u32],
     pub n: usize,
     pub m: usize,
     ghost room: { m * n ≤ length words.now },
 }
 
-impl<'a> Lent<'a> {
+impl<'a> LentPicks<'a> {
     // As many as there are words for.
     pub fn new(words: &'a [u32], n: usize) -> Self
         requires { 1 ≤ n }
         ensures { (result.words.now ≡ words.now) × (result.n ≡ n) × (result.m ≡ length words.now / n) }
     {
-        Lent {
+        LentPicks {
             words,
             n,
             m: words.len() / n,

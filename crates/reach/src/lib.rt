@@ -10,7 +10,7 @@ ghost use Rattle.verdicts.specs.Verdicts.{verdict_says};
 ghost use Rattle.model.specs.Causes.{first_of};
 ghost use Rattle.reach.specs.Tables.{out_causes, table_verdict, table_leaves};
 
-use links::Lent;
+use links::LentPicks;
 use model::Refusal;
 
 // The table takes in one pick more: the pick's own table is composed onto it.
@@ -23,7 +23,7 @@ fn add_pick(out: &mut [u32], pick: &[u32], n: usize)
 }
 
 // The table of the picks, from the first one on.
-fn write_table(out: &mut [u32], lent: &Lent<'_>)
+fn write_table(out: &mut [u32], lent: &LentPicks<'_>)
     requires { (1 ≤ lent.now.n) × (lent.now.n ≤ 32) × (lent.now.n ≡ length out.old) × (1 ≤ lent.now.m) }
     ensures { out.new ≡ reach lent.now.n hops01 (lent_picks lent.now.n lent.now.words.now lent.now.m) }
 {
@@ -36,7 +36,7 @@ fn write_table(out: &mut [u32], lent: &Lent<'_>)
 
 // The causes after those of every lent recording: 4, 5.
 #[tactic(auto, unfolding(model::specs::Causes::first_of))]
-fn out_verdict(lent: &Lent<'_>, out: &[u32]) -> Result<(), Refusal>
+fn out_verdict(lent: &LentPicks<'_>, out: &[u32]) -> Result<(), Refusal>
     requires { lent.now.n ≤ 32 }
     ensures { verdict_says result ≡ first_of (out_causes lent.now.n lent.now.words.now lent.now.m out.now) }
 {
@@ -58,7 +58,7 @@ fn table_verdict(n: usize, words: &[u32], out: &[u32]) -> Result<(), Refusal>
         return Err(Refusal::Boards);
     }
     verdicts::lent_verdict(words, n)?;
-    out_verdict(&Lent::new(words, n), out)
+    out_verdict(&LentPicks::new(words, n), out)
 }
 
 // The table of a recording lent whole, n words a pick, into the first n words of out.
@@ -67,6 +67,6 @@ pub fn table(n: usize, words: &[u32], out: &mut [u32]) -> Result<(), Refusal>
     ensures { (verdict_says result ≡ table_verdict n words.now out.old) × (out.new ≡ table_leaves n words.now out.old) }
 {
     table_verdict(n, words, out)?;
-    write_table(&mut out[..n], &Lent::new(words, n));
+    write_table(&mut out[..n], &LentPicks::new(words, n));
     Ok(())
 }

@@ -17,7 +17,7 @@ use Rattle.model.proofs.Logic.{tr}
 use Rattle.checks.specs.Lent.{lent_picks, clean_picks}
 use Rattle.checks.proofs.Lent.{length_lent, lent-recording, lent_at}
 use Rattle.saving.specs.declared.Change.{Change}
-use Rattle.saving.specs.declared.Lent.{Lent}
+use Rattle.saving.specs.declared.File.{File}
 use Rattle.saving.specs.File.{links_at, acts_at}
 use Rattle.saving.specs.Changes.{pick_of, count_of, picks_of, IsChangeAt}
 
@@ -29,26 +29,26 @@ before_clean n picks r (suc k) h = pick-at n picks r (suc k) (omega arith) h
 pub pick_clean : (n : ℕ) (picks : List (List ℕ)) → Recording n picks → (k : ℕ) → k < length picks → Clean n (get_or picks k [])
 pick_clean n picks r k h = pick-at n picks r (suc k) (omega arith) h
 
-module _ (l : Lent) where
-  pub this_pick : (k : ℕ) → k < count_of l → links_at l.n (picks_of l) (suc k) ≡ lent_pick l.n l.words.now k
-  this_pick k h = lent_at l.n l.words.now (count_of l) k h
+module _ (l : File) where
+  pub this_pick : (k : ℕ) → k < count_of l → links_at l.lent.n (picks_of l) (suc k) ≡ lent_pick l.lent.n l.lent.words.now k
+  this_pick k h = lent_at l.lent.n l.lent.words.now (count_of l) k h
 
   -- the words before those of a pick
   pub part_before : (k : ℕ) → k < count_of l → (k ≡ 0 → ⊥)
-      → take (k * l.n - (k - 1) * l.n) (drop ((k - 1) * l.n) l.words.now) ≡ links_at l.n (picks_of l) k
+      → take (k * l.lent.n - (k - 1) * l.lent.n) (drop ((k - 1) * l.lent.n) l.lent.words.now) ≡ links_at l.lent.n (picks_of l) k
   unfolding lent_pick
   part_before zero h z = absurd (z refl)
   part_before (suc j) h z =
       let e : suc j - 1 ≡ j = omega arith in
-      let d : suc j * l.n - j * l.n ≡ l.n = omega (arith, suc-mul j l.n) in
+      let d : suc j * l.lent.n - j * l.lent.n ≡ l.lent.n = omega (arith, suc-mul j l.lent.n) in
       rw (e, d) (sym (this_pick j (omega arith)))
 
-  pub clean_before : (k : ℕ) → k < count_of l → Clean l.n (links_at l.n (picks_of l) k)
-  clean_before zero h = zeros-clean l.n
+  pub clean_before : (k : ℕ) → k < count_of l → Clean l.lent.n (links_at l.lent.n (picks_of l) k)
+  clean_before zero h = zeros-clean l.lent.n
   clean_before (suc j) h = rw (this_pick j (omega arith)) (l.clean j (omega arith))
 
   -- the commands of the change to a pick
-  pub change_at : {k : ℕ} {c : Change} → IsChangeAt l k c → pick_of c ≡ acts_at l.n (picks_of l) k
+  pub change_at : {k : ℕ} {c : Change} → IsChangeAt l k c → pick_of c ≡ acts_at l.lent.n (picks_of l) k
   unfolding acts_at
   change_at i = rw (i.wide, i.was, i.is)
 

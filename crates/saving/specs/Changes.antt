@@ -3,7 +3,7 @@ use Rattle.std.specs.Prelude.{◌≡◌, Bool, List, ℕ, ◌+◌, ◌≤◌, �
 use Rattle.checks.specs.Lent.{lent_picks}
 use Rattle.recording.specs.Grammar.{Act}
 use Rattle.saving.specs.declared.Change.{Change}
-use Rattle.saving.specs.declared.Lent.{Lent}
+use Rattle.saving.specs.declared.File.{File}
 use Rattle.saving.specs.declared.Output.{Output}
 use Rattle.saving.specs.Answers.{lent_file}
 use Rattle.saving.specs.File.{row_acts, table_acts, change_acts, pick_acts, links_at}
@@ -35,17 +35,17 @@ pub record Puts (out after : Output) (xs : List Act) : Type 0 where
   pub made : Put out.bytes.now after.bytes.now out.at after.at xs
 
 -- how many picks were lent, which, and their file
-abbrev pub count_of : Lent → ℕ
-count_of l = length l.words.now / l.n
+abbrev pub count_of : File → ℕ
+count_of l = length l.lent.words.now / l.lent.n
 
-abbrev pub picks_of : Lent → List (List ℕ)
-picks_of l = lent_picks l.n l.words.now (count_of l)
+abbrev pub picks_of : File → List (List ℕ)
+picks_of l = lent_picks l.lent.n l.lent.words.now (count_of l)
 
-abbrev pub file_of : Lent → List ℕ
-file_of l = lent_file l.n l.words.now
+abbrev pub file_of : File → List ℕ
+file_of l = lent_file l.lent.n l.lent.words.now
 
 -- the change is that to the pick with k picks before it
-pub record IsChangeAt (l : Lent) (k : ℕ) (c : Change) : Type 0 where
-  pub wide : length c.was.now ≡ l.n
-  pub was : c.was.now ≡ links_at l.n (picks_of l) k
-  pub is : c.is.now ≡ links_at l.n (picks_of l) (suc k)
+pub record IsChangeAt (l : File) (k : ℕ) (c : Change) : Type 0 where
+  pub wide : length c.was.now ≡ l.lent.n
+  pub was : c.was.now ≡ links_at l.lent.n (picks_of l) k
+  pub is : c.is.now ≡ links_at l.lent.n (picks_of l) (suc k)

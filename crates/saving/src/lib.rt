@@ -10,6 +10,7 @@ ghost use Rattle.saving.specs.File.{links_at};
 ghost use Rattle.saving.specs.Puts.{Changed};
 ghost use Rattle.saving.specs.Answers.{saving_says, save_says, save_leaves};
 
+use links::LentPicks;
 use model::{Board, Refusal};
 
 // The links before the first pick: none is open. A static, since a constant array is written out at each call.
@@ -88,7 +89,7 @@ impl Change<'_> {
     fn size(&self) -> usize
         ensures { (result ≡ size_of (pick_of self.now)) × (result ≤ 3073) }
     {
-        3 * links::differing(self.was, self.is, self.was.len()) as usize + 1
+        3 * links::differing(self.was, self.is) as usize + 1
     }
 
     // The commands of the links of one board, ascending by to: a turn for each link that opens, or shuts.
@@ -122,7 +123,7 @@ impl Change<'_> {
         requires { HasRoom out.old (changes_of self.now) }
         ensures { Puts out.old out.new (changes_of self.now) }
     {
-        if !links::is_same(self.was, self.is, self.was.len()) {
+        if !links::is_same(self.was, self.is) {
             self.write_table(out, false);
             self.write_table(out, true);
         }
@@ -140,33 +141,33 @@ impl Change<'_> {
 
 // ---- the file
 
-// A sequence that was lent, n words a pick.
+// The file of picks that are lent, none of them with a forbidden bit.
 #[derive(Clone, Copy)]
-struct Lent<'a> {
-    words: &'a [u32],
-    n: usize,
-    ghost boards: { (2 ≤ n) × (n ≤ 32) },
-    ghost few: { length words.now / n ≤ 4096 },
-    ghost clean: { (k : ℕ) → k < length words.now / n → Clean n (lent_pick n words.now k) },
+struct File<'a> {
+    lent: LentPicks<'a>,
+    ghost boards: { (2 ≤ lent.n) × (lent.n ≤ 32) },
+    ghost few: { length lent.words.now / lent.n ≤ 4096 },
+    ghost clean: { (k : ℕ) → k < length lent.words.now / lent.n → Clean lent.n (lent_pick lent.n lent.words.now k) },
 }
 
-impl<'a> Lent<'a> {
+impl<'a> File<'a> {
     ghost use Rattle.saving.specs.Changes.{count_of, picks_of, file_of, IsChangeAt};
 
     // The links of the pick before the one with k picks before it; all are shut before the first.
     fn links_before(&self, k: usize) -> &'a [u32]
         requires { k < count_of self.now }
-        ensures { result.now ≡ links_at self.now.n (picks_of self.now) k }
+        ensures { result.now ≡ links_at self.now.lent.n (picks_of self.now) k }
     {
+        let n = self.lent.n;
         if k == 0 {
-            return &SHUT[..self.n];
+            return &SHUT[..n];
         }
-        &self.words[(k - 1) * self.n..k * self.n]
+        &self.lent.words[(k - 1) * n..k * n]
     }
 
     // The change to the pick with k picks before it.
     fn change(&self, k: usize, pick: &'a [u32]) -> Change<'a>
-        requires { (k < count_of self.now) × (pick.now ≡ lent_pick self.now.n self.now.words.now k) }
+        requires { (k < count_of self.now) × (pick.now ≡ lent_pick self.now.lent.n self.now.lent.words.now k) }
         ensures { IsChangeAt self.now k result }
     {
         Change {
@@ -180,7 +181,7 @@ impl<'a> Lent<'a> {
         ensures { result ≡ length (file_of self.now) }
     {
         let mut size: usize = 3;
-        for (k, pick) in self.words.chunks_exact(self.n).enumerate() {
+        for (k, pick) in self.lent.words.chunks_exact(self.lent.n).enumerate() {
             size += self.change(k, pick).size();
         }
         size
@@ -193,8 +194,8 @@ impl<'a> Lent<'a> {
     {
         let mut out = Output { bytes: out, at: 0 };
         out.put(0x42);
-        out.put(self.n as u8);
-        for (k, pick) in self.words.chunks_exact(self.n).enumerate() {
+        out.put(self.lent.n as u8);
+        for (k, pick) in self.lent.words.chunks_exact(self.lent.n).enumerate() {
             self.change(k, pick).write(&mut out);
         }
         out.put(0x45);
@@ -215,18 +216,18 @@ pub fn save(n: usize, words: &[u32], out: &mut [u8]) -> Result<usize, Refusal>
     if words.len() % n != 0 {
         return Err(Refusal::Shape);
     }
-    let m = words.len() / n;
-    if 4096 < m {
+    let lent = LentPicks::new(words, n);
+    if 4096 < lent.m {
         return Err(Refusal::Picks);
     }
-    if !checks::are_clean(words, n, m) {
+    if !checks::are_clean(&lent) {
         return Err(Refusal::Forbidden);
     }
-    let lent = Lent { words, n };
-    let size = lent.size();
+    let file = File { lent };
+    let size = file.size();
     if out.len() < size {
         return Err(Refusal::FileRoom);
     }
-    lent.write(out);
+    file.write(out);
     Ok(size)
 }

@@ -9,7 +9,7 @@ ghost use Rattle.model.specs.Causes.{first_of};
 ghost use Rattle.verdicts.specs.Verdicts.{needed, lent_causes, run_causes, window_causes};
 ghost use Rattle.verdicts.specs.Verdicts.{open_verdict, pick_verdict, whole_verdict, verdict_says};
 
-use links::Lent;
+use links::LentPicks;
 use model::Refusal;
 use place::Place;
 
@@ -142,7 +142,7 @@ pub fn pick_verdict(p: Place, area: &[u32], words: &[u32]) -> Result<(), Refusal
 
 // The causes after those of every lent recording: 4, 5.
 #[tactic(auto, unfolding(model::specs::Causes::first_of))]
-fn run_verdict(lent: &Lent<'_>, measure: usize, area: &[u32]) -> Result<(), Refusal>
+fn run_verdict(lent: &LentPicks<'_>, measure: usize, area: &[u32]) -> Result<(), Refusal>
     requires { (lent.now.n ≤ 32) × (lent.now.m ≤ 4096) }
     ensures { verdict_says result ≡ first_of (run_causes lent.now.n measure lent.now.words.now lent.now.m area.now) }
 {
@@ -167,7 +167,7 @@ pub fn whole_verdict(n: usize, measure: usize, words: &[u32], area: &[u32]) -> R
         return Err(Refusal::Measure);
     }
     lent_verdict(words, n)?;
-    run_verdict(&Lent::new(words, n), measure, area)
+    run_verdict(&LentPicks::new(words, n), measure, area)
 }
 
 // ---- a window length

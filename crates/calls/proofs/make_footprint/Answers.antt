@@ -1,4 +1,4 @@
--- `calls::make_footprint` meets its contract: what `Lent::unite_picks` makes of pick 1 is `unions` (`unions_made`).
+-- `calls::make_footprint` meets its contract: what `LentPicks::unite_picks` makes of pick 1 is `unions` (`unions_made`).
 -- Assumes nothing.
 use mathlib.Core.Path.{ap, ◌∙◌}
 use Rattle.place.specs.Places.{charged}

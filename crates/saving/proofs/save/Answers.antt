@@ -3,5 +3,7 @@
 use Rattle.saving.proofs.Lends.{clean_lent}
 use Rattle.saving.proofs.save.Goals as goal
 
-pub invariant_of-lent-clause-clean : goal.invariant_of-lent-clause-clean
-invariant_of-lent-clause-clean c = clean_lent c.args.n c.args.words.now c.if-not-are_clean.ensures
+pub invariant_of-file-clause-clean : goal.invariant_of-file-clause-clean
+invariant_of-file-clause-clean c =
+    let l = c.new-lent.ensures in
+    rw (l.0, l.1) (clean_lent c.args.n c.args.words.now (rw (l.0, l.1, l.2) at c.if-not-are_clean.ensures))

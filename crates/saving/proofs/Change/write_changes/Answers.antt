@@ -47,5 +47,5 @@ unfolding change_acts
 returns-else-not-is_same c =
     let s = c.args.self.now in
     let n = length s.was.now in
-    let e = same_equal n s.was.now s.is.now s.was_clean.words s.is_clean.words (tr c.if-not-is_same.ensures tt) in
+    let e = same_equal n s.was.now s.is.now s.was_clean.words s.is_clean.words (tr (rw s.is_clean.words.size at c.if-not-is_same.ensures) tt) in
     record { there = refl; made = puts_none (rw (e, none false s.was.now n, none true s.was.now n)) }

@@ -1,4 +1,4 @@
--- `Lent::size` meets its contract: after k picks, their bytes and three.
+-- `File::size` meets its contract: after k picks, their bytes and three.
 -- Assumes nothing.
 use mathlib.Core.Path.{◌≡◌, refl, ap, ◌∙◌}
 use native.Mathlib.Numerals.{add-one}
@@ -12,7 +12,7 @@ use Rattle.saving.specs.Answers.{lent_file}
 use Rattle.saving.proofs.Acts.{bytes_length}
 use Rattle.saving.proofs.Size.{file-size}
 use Rattle.saving.proofs.Lends.{change_at, passing_start, passing_turn, passing_all}
-use Rattle.saving.proofs.Lent.size.Goals as goal
+use Rattle.saving.proofs.File.size.Goals as goal
 
 pub loop-k-init : goal.loop-k-init
 unfolding each bytes_of
@@ -41,4 +41,4 @@ unfolding lent_file
 returns c =
     let s = c.args.self.now in
     let i = c.loop-k.invariant in
-    rw (passing_all i.at c.in-None.ensures.steps.0.1.0) at i.sum ∙ file-size s.n (picks_of s) (count_of s) (length_lent s.n s.words.now (count_of s))
+    rw (passing_all i.at c.in-None.ensures.steps.0.1.0) at i.sum ∙ file-size s.lent.n (picks_of s) (count_of s) (length_lent s.lent.n s.lent.words.now (count_of s))

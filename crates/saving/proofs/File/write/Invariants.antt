@@ -1,4 +1,4 @@
--- `Lent::write` meets its contract: 42 and n, the picks, and the 45, one behind the other.
+-- `File::write` meets its contract: 42 and n, the picks, and the 45, one behind the other.
 -- Assumes nothing.
 use mathlib.Core.Path.{◌≡◌}
 use Prim.Native.Nat.{◌/◌}
@@ -9,12 +9,12 @@ use Rattle.saving.specs.File.{acts_at}
 use Rattle.saving.specs.Changes.{picks_of}
 use Rattle.saving.proofs.Lends.{Passing}
 use Rattle.saving.proofs.Put.{Wrote}
-use Rattle.saving.proofs.Lent.write.Given as goal
+use Rattle.saving.proofs.File.write.Given as goal
 
 abbrev pub invariant-loop-k : goal.invariant-loop-k
 invariant-loop-k l =
-    let n = l.self.n in
-    let w = l.self.words.now in
+    let n = l.self.lent.n in
+    let w = l.self.lent.words.now in
     let k = enumerate_count l.k-iterator in record {
       at : Passing n w k (chunks_exact_size (enumerate_source l.k-iterator)) (chunks_exact_rest (enumerate_source l.k-iterator));
       there : l.out.bytes.ghost_name ≡ l.initial.out.bytes.ghost_name;

@@ -1,8 +1,8 @@
--- `Lent::change` meets its contract: neither the pick nor the links before it have a forbidden bit.
+-- `File::change` meets its contract: neither the pick nor the links before it have a forbidden bit.
 -- Assumes nothing.
 use mathlib.Core.Path.{sym, ◌∙◌}
 use Rattle.saving.proofs.Lends.{this_pick, clean_before}
-use Rattle.saving.proofs.Lent.change.Goals as goal
+use Rattle.saving.proofs.File.change.Goals as goal
 
 pub invariant_of-result : goal.invariant_of-result
 invariant_of-result c =

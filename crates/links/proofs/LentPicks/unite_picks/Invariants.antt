@@ -1,7 +1,7 @@
--- `Lent::unite_picks` meets its contract: the picks before pick k are united. Assumes nothing.
+-- `LentPicks::unite_picks` meets its contract: the picks before pick k are united. Assumes nothing.
 use Rattle.std.proofs.Common.{◌≡◌, ◌+◌, ◌-◌, ◌≤◌, length}
 use Rattle.links.specs.Picks.{united_picks}
-use Rattle.links.proofs.Lent.unite_picks.Given as goal
+use Rattle.links.proofs.LentPicks.unite_picks.Given as goal
 
 abbrev pub invariant-loop-k : goal.invariant-loop-k
 invariant-loop-k l =

@@ -1,4 +1,4 @@
--- `Lent::size` meets its contract: after k picks, their bytes and three.
+-- `File::size` meets its contract: after k picks, their bytes and three.
 -- Assumes nothing.
 use mathlib.Core.Path.{◌≡◌}
 use Prim.Native.Nat.{◌+◌, ◌*◌, ◌≤◌}
@@ -9,12 +9,12 @@ use Rattle.saving.specs.File.{each, acts_at}
 use Rattle.saving.specs.Puts.{bytes_of}
 use Rattle.saving.specs.Changes.{picks_of}
 use Rattle.saving.proofs.Lends.{Passing}
-use Rattle.saving.proofs.Lent.size.Given as goal
+use Rattle.saving.proofs.File.size.Given as goal
 
 abbrev pub invariant-loop-k : goal.invariant-loop-k
 invariant-loop-k l =
-    let n = l.self.n in
-    let w = l.self.words.now in
+    let n = l.self.lent.n in
+    let w = l.self.lent.words.now in
     let k = enumerate_count l.k-iterator in record {
       at : Passing n w k (chunks_exact_size (enumerate_source l.k-iterator)) (chunks_exact_rest (enumerate_source l.k-iterator));
       sum : l.size ≡ 3 + length (bytes_of (each (acts_at n (picks_of l.self)) k));
