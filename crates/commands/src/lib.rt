@@ -94,7 +94,7 @@ fn byte_at(bytes: &[u8], at: usize) -> usize
     bytes.get(at).map_or(0, |byte| usize::from(*byte))
 }
 
-// The command at a place of the file.
+// The command at a place of the file. Where it stands is a fact about it that its bytes do not tell: `first` chooses no step.
 #[tactic(auto, unfolding(crate::specs::Commands::command_at, model::specs::Causes::first_or))]
 fn command_at(bytes: &[u8], at: usize, first: bool) -> Result<Command, Refusal>
     ensures { result ≡ command_at first bytes.now at }

@@ -12,7 +12,7 @@ use Rattle.lists.specs.Tab.{splice}
 use Rattle.lists.proofs.Splice.{splice-more, splice-set, splice_none, splice-length}
 use Rattle.recording.specs.Grammar.{Act, code, sets, pick, spell_file}
 use Rattle.saving.specs.File.{each}
-use Rattle.saving.specs.Puts.{bytes_of, Put}
+use Rattle.saving.specs.Puts.{bytes_of, Puts}
 use Rattle.saving.proofs.Acts.{each_within, bytes_append, bytes_length, bytes_all}
 
 -- a byte behind those that are put
@@ -31,29 +31,29 @@ set_three at x y z out room = rw (set_two at x y out (omega arith)) (set_more at
 
 -- ---- commands put
 
-pub puts_none : {out : List ℕ} {at : ℕ} {xs : List Act} → xs ≡ [] → Put out out at at xs
+pub puts_none : {out : List ℕ} {at : ℕ} {xs : List Act} → xs ≡ [] → Puts out out at at xs
 unfolding bytes_of
 puts_none {out} {at} e = record { ends = rw (e, add-zero); made = rw e (splice_none at out) }
 
 -- the three bytes of a command, each put behind the one before
 module _ {x : Bool} {a b at c at₁ at₂ at₃ : ℕ} {out out₁ out₂ out₃ : List ℕ} (e : c ≡ code x) (room : at + 3 ≤ length out)
     (i : at₁ ≡ at + 1) (j : at₂ ≡ at₁ + 1) (k : at₃ ≡ at₂ + 1) (f : out₁ ≡ set out at c) (g : out₂ ≡ set out₁ at₁ a) (h : out₃ ≡ set out₂ at₂ b) where
-  pub puts_link : Put out out₃ at at₃ (sets x a b ∷ [])
+  pub puts_link : Puts out out₃ at at₃ (sets x a b ∷ [])
   unfolding bytes_of
   puts_link =
       let l : at₂ ≡ at + 2 = omega arith in
       record { ends = omega arith; made = h ∙ rw (l, g, i, f, e) (set_three at (code x) a b out room) }
 
-pub puts_pick : {at : ℕ} {out : List ℕ} → at < length out → Put out (set out at 0x50) at (at + 1) (pick ∷ [])
+pub puts_pick : {at : ℕ} {out : List ℕ} → at < length out → Puts out (set out at 0x50) at (at + 1) (pick ∷ [])
 unfolding bytes_of
 puts_pick {at} {out} room = record { ends = refl; made = splice-set at 0x50 out room }
 
-module _ {out after : List ℕ} {at mid : ℕ} {xs : List Act} (room : at + length (bytes_of xs) ≤ length out) (p : Put out after at mid xs) where
+module _ {out after : List ℕ} {at mid : ℕ} {xs : List Act} (room : at + length (bytes_of xs) ≤ length out) (p : Puts out after at mid xs) where
   pub puts_long : length after ≡ length out
   puts_long = ap length p.made ∙ splice-length at (length (bytes_of xs)) (bytes_of xs) out refl (omega arith) room
 
   -- others behind them
-  pub puts_more : {last : List ℕ} {behind : ℕ} {ys : List Act} → Put after last mid behind ys → Put out last at behind (xs ++ ys)
+  pub puts_more : {last : List ℕ} {behind : ℕ} {ys : List Act} → Puts after last mid behind ys → Puts out last at behind (xs ++ ys)
   puts_more {ys = ys} q = record {
     ends = q.ends ∙ rw (p.ends, bytes_length xs ys) (omega arith);
     made = q.made ∙ rw (p.made, bytes_length xs ys, bytes_append xs ys)
@@ -65,7 +65,7 @@ module _ (out : List ℕ) (at : ℕ) (xs ys : List Act) (room : at + length (byt
   pub first_room : at + length (bytes_of xs) ≤ length out
   first_room = omega (arith, bytes_length xs ys)
 
-  pub second_room : {after : List ℕ} {mid : ℕ} → Put out after at mid xs → mid + length (bytes_of ys) ≤ length after
+  pub second_room : {after : List ℕ} {mid : ℕ} → Puts out after at mid xs → mid + length (bytes_of ys) ≤ length after
   second_room p = omega (arith, bytes_length xs ys, p.ends, puts_long first_room p)
 
 -- ---- the loops
@@ -74,7 +74,7 @@ module _ (out : List ℕ) (at : ℕ) (xs ys : List Act) (room : at + length (byt
 pub record Wrote (f : ℕ → List Act) (m at : ℕ) (out₀ out : List ℕ) (next k : ℕ) : Type 0 where
   pub room : at + length (bytes_of (each f m)) ≤ length out₀
   pub low : k ≤ m
-  pub puts : Put out₀ out at next (each f k)
+  pub puts : Puts out₀ out at next (each f k)
 
 pub wrote_start : {f : ℕ → List Act} {m at : ℕ} {out₀ : List ℕ} → at + length (bytes_of (each f m)) ≤ length out₀ → Wrote f m at out₀ out₀ at 0
 unfolding each
@@ -91,11 +91,11 @@ module _ {f : ℕ → List Act} {m at : ℕ} {out₀ out : List ℕ} {next k : �
   pub wrote_room : k < m → next + length (bytes_of (f k)) ≤ length out
   wrote_room h = omega (arith, each_within f m k h, w.room, w.puts.ends, wrote_long)
 
-  pub wrote_turn : k < m → {out₂ : List ℕ} {next₂ : ℕ} → Put out out₂ next next₂ (f k) → Wrote f m at out₀ out₂ next₂ (k + 1)
+  pub wrote_turn : k < m → {out₂ : List ℕ} {next₂ : ℕ} → Puts out out₂ next next₂ (f k) → Wrote f m at out₀ out₂ next₂ (k + 1)
   unfolding each
   wrote_turn h q = record { room = w.room; low = omega arith; puts = rw add-one (puts_more fits w.puts q) }
 
-  pub wrote_all : m ≤ k → Put out₀ out at next (each f m)
+  pub wrote_all : m ≤ k → Puts out₀ out at next (each f m)
   wrote_all h = let e : k ≡ m = omega (arith, w.low) in rw e at w.puts
 
 -- where nothing is to be written the loop is as far
@@ -127,7 +127,7 @@ module _ (n : ℕ) (acts : List Act) (out : List ℕ) (room : length (spell_file
   pub head_long : length (set (set out 0 0x42) 1 n) ≡ length out
   head_long = simp length-set
 
-  module _ {last : List ℕ} {next : ℕ} (p : Put (set (set out 0 0x42) 1 n) last 2 next acts) where
+  module _ {last : List ℕ} {next : ℕ} (p : Puts (set (set out 0 0x42) 1 n) last 2 next acts) where
     pub last_long : length last ≡ length out
     last_long = puts_long (omega (arith, file_room, head_long)) p ∙ head_long
 

@@ -17,7 +17,7 @@ use Rattle.links.specs.Tables.{without}
 use Rattle.links.proofs.Bits.{bit_left, bit_out}
 use Rattle.recording.specs.Grammar.{sets}
 use Rattle.saving.specs.File.{becomes, link_acts, row_acts}
-use Rattle.saving.specs.Puts.{bytes_of, Put, Changed}
+use Rattle.saving.specs.Puts.{bytes_of, Puts, Changed}
 use Rattle.saving.proofs.Put.{Wrote, wrote_start, wrote_room, wrote_turn, wrote_on, wrote_all}
 
 -- a bit that is set where another is cleared was set before
@@ -56,7 +56,7 @@ module _ {x : Bool} {old new : List ℕ} {n a at : ℕ} {out₀ out : List ℕ} 
   unfolding link_acts
   reached j l h z = wrote_on j l h (λ i s t. rw (sym (p.onward i s (omega arith)) ∙ z i t)) p.wrote
 
-  pub passed_all : rest ≡ 0 → Put out₀ out at next (row_acts x old new n a)
+  pub passed_all : rest ≡ 0 → Puts out₀ out at next (row_acts x old new n a)
   unfolding row_acts
   passed_all e = wrote_all (reached n p.wrote.low (le_refl n) (λ b l. ap (λ (w : ℕ). bit w b) e ∙ bit_high 0 b (pow_pos b))) (le_refl n)
 
@@ -77,7 +77,7 @@ module _ {x : Bool} {old new : List ℕ} {n a at : ℕ} {out₀ out : List ℕ} 
     unfolding bytes_of
     passed_room = rw own at (wrote_room here (p.inside b t))
 
-    pub passed_turn : {out₂ : List ℕ} {next₂ left : ℕ} → n ≤ 32 → left ≡ without rest b → Put out out₂ next next₂ (sets x a b ∷ [])
+    pub passed_turn : {out₂ : List ℕ} {next₂ left : ℕ} → n ≤ 32 → left ≡ without rest b → Puts out out₂ next next₂ (sets x a b ∷ [])
         → Passed x old new n a at out₀ out₂ next₂ left
     passed_turn n32 e q =
         let h = p.inside b t in

@@ -7,7 +7,7 @@ use Rattle.saving.specs.declared.File.{File}
 use Rattle.saving.specs.declared.Output.{Output}
 use Rattle.saving.specs.Answers.{lent_file}
 use Rattle.saving.specs.File.{row_acts, table_acts, change_acts, pick_acts, links_at}
-use Rattle.saving.specs.Puts.{bytes_of, Put}
+use Rattle.saving.specs.Puts.{bytes_of, Puts}
 
 -- the commands of a change: those of the links from one board, those of all links, that open or shut; all, and the 50 behind them
 abbrev pub row_of : Bool → Change → ℕ → List Act
@@ -30,9 +30,9 @@ abbrev pub HasRoom : Output → List Act → Type 0
 HasRoom out xs = out.at + size_of xs ≤ length out.bytes.now
 
 -- they are put behind what the output has, which lies where it did
-pub record Puts (out after : Output) (xs : List Act) : Type 0 where
+pub record Appends (out after : Output) (xs : List Act) : Type 0 where
   pub there : after.bytes.ghost_name ≡ out.bytes.ghost_name
-  pub made : Put out.bytes.now after.bytes.now out.at after.at xs
+  pub made : Puts out.bytes.now after.bytes.now out.at after.at xs
 
 -- how many picks were lent, which, and their file
 abbrev pub count_of : File → ℕ

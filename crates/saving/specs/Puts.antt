@@ -11,7 +11,7 @@ bytes_of [] = []
 bytes_of (x ∷ xs) = spell x ++ bytes_of xs
 
 -- the bytes of the commands stand from `at` on, `behind` is the place behind them, and the other bytes are as they were
-pub record Put (out after : List ℕ) (at behind : ℕ) (acts : List Act) : Type 0 where
+pub record Puts (out after : List ℕ) (at behind : ℕ) (acts : List Act) : Type 0 where
   pub ends : behind ≡ at + length (bytes_of acts)
   pub made : after ≡ splice at (length (bytes_of acts)) (bytes_of acts) out
 

@@ -18,7 +18,7 @@ static SHUT: [u32; 32] = [0; 32];
 
 // ---- the output
 
-// The command byte of a link that opens, or shuts.
+// The command byte of a link that opens, or shuts. Here and below that is part of what a command says, as its boards are; it chooses no step.
 fn code_of(opens: bool) -> u8
     ensures { result ≡ code opens }
 {
@@ -33,7 +33,7 @@ struct Output<'a> {
 }
 
 impl Output<'_> {
-    ghost use Rattle.saving.specs.Changes.{Puts};
+    ghost use Rattle.saving.specs.Changes.{Appends};
 
     // A byte more.
     fn put(&mut self, byte: u8)
@@ -49,7 +49,7 @@ impl Output<'_> {
     // The command of a link.
     fn put_link(&mut self, opens: bool, from: Board, to: Board)
         requires { (from.0 < 32) × (to.0 < 32) × (self.old.at + 3 ≤ length self.old.bytes.now) }
-        ensures { Puts self.old self.new (sets opens from.0 to.0 ∷ []) }
+        ensures { Appends self.old self.new (sets opens from.0 to.0 ∷ []) }
     {
         self.put(code_of(opens));
         self.put(from.0 as u8);
@@ -82,7 +82,7 @@ struct Change<'a> {
 }
 
 impl Change<'_> {
-    ghost use Rattle.saving.specs.Changes.{row_of, table_of, changes_of, pick_of, size_of, HasRoom, Puts};
+    ghost use Rattle.saving.specs.Changes.{row_of, table_of, changes_of, pick_of, size_of, HasRoom, Appends};
 
     // The bytes of the pick: three for each link that is not as it was, and its 50.
     #[tactic(auto, using(crate::proofs::Size::pick_size, crate::proofs::Size::few_links))]
@@ -96,7 +96,7 @@ impl Change<'_> {
     fn write_row(&self, out: &mut Output, opens: bool, a: usize)
         requires board { a < length self.now.was.now }
         requires room { HasRoom out.old (row_of opens self.now a) }
-        ensures { Puts out.old out.new (row_of opens self.now a) }
+        ensures { Appends out.old out.new (row_of opens self.now a) }
     {
         let mut rest = changed(opens, self.was[a], self.is[a]);
         // The library has no iterator over set bits, and one of our own would be longer than this loop.
@@ -110,7 +110,7 @@ impl Change<'_> {
     // The commands of all links that open, or of all that shut, ascending by from and then to.
     fn write_table(&self, out: &mut Output, opens: bool)
         requires { HasRoom out.old (table_of opens self.now) }
-        ensures { Puts out.old out.new (table_of opens self.now) }
+        ensures { Appends out.old out.new (table_of opens self.now) }
     {
         // By number: a `zip` of the two tables costs a pick up to 199 instructions more.
         for a in 0..self.was.len() {
@@ -121,7 +121,7 @@ impl Change<'_> {
     // The links that shut, then those that open. Where no link changes, one pass over the words tells.
     fn write_changes(&self, out: &mut Output)
         requires { HasRoom out.old (changes_of self.now) }
-        ensures { Puts out.old out.new (changes_of self.now) }
+        ensures { Appends out.old out.new (changes_of self.now) }
     {
         if !links::is_same(self.was, self.is) {
             self.write_table(out, false);
@@ -132,7 +132,7 @@ impl Change<'_> {
     // The changes, and the 50 of the pick.
     fn write(&self, out: &mut Output)
         requires { HasRoom out.old (pick_of self.now) }
-        ensures { Puts out.old out.new (pick_of self.now) }
+        ensures { Appends out.old out.new (pick_of self.now) }
     {
         self.write_changes(out);
         out.put(0x50);

@@ -10,7 +10,7 @@ use Rattle.checks.proofs.Lent.{length_lent}
 use Rattle.recording.specs.Grammar.{Act, spell_file}
 use Rattle.saving.specs.File.{each, acts_at, file_acts, file}
 use Rattle.saving.specs.declared.File.{File}
-use Rattle.saving.specs.Puts.{Put}
+use Rattle.saving.specs.Puts.{Puts}
 use Rattle.saving.specs.Changes.{count_of, picks_of, file_of}
 use Rattle.saving.specs.Answers.{lent_file}
 use Rattle.saving.proofs.Put.{wrote_start, wrote_room, wrote_turn, wrote_all, file_room, last_room, file_put}
@@ -78,7 +78,7 @@ loop-k-preserved c =
 
 -- all picks are put behind 42 and n
 put_all : (c : In-None) → let s = c.args.self.now in
-    Put (set (set c.args.out.now 0 0x42) 1 s.lent.n) c.loop-k.out.bytes.now 2 c.loop-k.out.at (acts s)
+    Puts (set (set c.args.out.now 0 0x42) 1 s.lent.n) c.loop-k.out.bytes.now 2 c.loop-k.out.at (acts s)
 put_all c =
     let i = c.loop-k.invariant in
     let b = begun (goal.at.In-None c).After-put-2 in
