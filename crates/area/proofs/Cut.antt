@@ -9,8 +9,8 @@ use lib.Seq.{length-take-le}
 use Rattle.lists.specs.Tab.{splice}
 use Rattle.lists.proofs.Splice.{read_front, splice_front}
 use Rattle.measures.specs.Kit.{Kit}
-use Rattle.area.specs.Parts.{part_size, table_at, compose_at, copy_at}
-use Rattle.area.proofs.Stored.{table_lent, onto_lent, copy_lent}
+use Rattle.area.specs.Parts.{part_size, table_at, compose_at}
+use Rattle.area.proofs.Stored.{table_lent, onto_lent}
 
 -- a part ends before a later one begins
 pub apart : {d r e k : ℕ} → 1 ≤ d → d < r → k ≤ e → (d - 1) * e + k ≤ (r - 1) * e
@@ -47,7 +47,3 @@ module _ (K : Kit) (a : List ℕ) {e k : ℕ} (p : e ≡ part_size K) (q : k ≡
   composed d r i g h =
       ap (λ (x : List ℕ). splice ((d - 1) * e) k x a) (h ∙ ap₂ K.join i (g ∙ table_lent K a r p q))
       ∙ onto_lent K a d p q (λ (u : List ℕ). K.join u (table_at K a r))
-
-  -- that of part r becomes that of part d
-  pub copied : (d r : ℕ) {t : List ℕ} → t ≡ take k (drop ((r - 1) * e) a) → splice ((d - 1) * e) k t a ≡ copy_at K a d r
-  copied d r g = ap (λ (x : List ℕ). splice ((d - 1) * e) k x a) g ∙ copy_lent K a d r p q

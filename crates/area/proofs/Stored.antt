@@ -46,14 +46,9 @@ module _ (K : Kit) (a : List ℕ) (i : ℕ) {e k : ℕ} (p : e ≡ part_size K) 
   unfolding table stored part stored_size
   onto_lent f = rw (p, q)
 
--- a table read from part l and written to part i
-pub copy_lent : (K : Kit) (a : List ℕ) (i l : ℕ) {e k : ℕ} → e ≡ part_size K → k ≡ K.size
-    → splice ((i - 1) * e) k (take k (drop ((l - 1) * e) a)) a ≡ copy_at K a i l
-unfolding copy_at
-copy_lent K a i l {e} {k} p q = ap (λ (t : List ℕ). splice ((i - 1) * e) k t a) (table_lent K a l p q) ∙ stored_lent K a i p q (table_at K a l)
-
 -- a part that is copied onto itself
-pub copy_same : (K : Kit) (a : List ℕ) (i : ℕ) → a ≡ copy_at K a i i
+pub copy_same : (K : Kit) (a : List ℕ) (i l : ℕ) → i ≡ l → a ≡ copy_at K a i l
 unfolding copy_at stored table part splice stored_size
-copy_same K a i =
-    sym (ap (λ (t : List ℕ). take ((i - 1) * K.size) a ++ t) (take-append-drop K.size (drop ((i - 1) * K.size) a)) ∙ take-append-drop ((i - 1) * K.size) a)
+copy_same K a i l q =
+    rw q
+    (sym (ap (λ (t : List ℕ). take ((l - 1) * K.size) a ++ t) (take-append-drop K.size (drop ((l - 1) * K.size) a)) ∙ take-append-drop ((l - 1) * K.size) a))

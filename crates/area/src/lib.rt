@@ -54,7 +54,36 @@ fn compose_itself(area: &mut [u32], measure: usize, n: usize, d: usize)
     measures::compose(&mut area[at..at + k], &right[..k], measure, n);
 }
 
-// Composes the table of part r, the later, onto that of part d, the earlier: the area is cut between them, so that both are lent at the same time.
+// Calls f with the table of part d, to be written, and that of part r, to be read: the area is cut between the two, so that both are lent at the same time.
+// They are not returned: what the area then becomes is proved of the halves of `split_at_mut` alone, not of words within one.
+fn on_both<F: FnOnce(&mut [u32], &[u32])>(
+    area: &mut [u32],
+    measure: usize,
+    n: usize,
+    d: usize,
+    r: usize,
+    f: F,
+)
+    requires parts { (n ≤ 32) × (d ≢ r) × Has (width_of measure n) (length area.old) d × Has (width_of measure n) (length area.old) r }
+    requires accepts { (x : _) (y : _) → size_of measure n ≡ length x.now → size_of measure n ≡ length y.now → F.pre f x y }
+    ensures { (x : _) × (y : _) × (z : _) × F.post f x y tt z × (x.now ≡ table_at (kit measure n) area.old d)
+        × (y.now ≡ table_at (kit measure n) area.old r) × (area.new ≡ put_table (kit measure n) area.old d z.now) }
+{
+    let e = width(measure, n);
+    let k = measures::size(measure, n);
+    if d < r {
+        let at = (d - 1) * e;
+        let (front, back) = area.split_at_mut((r - 1) * e);
+        f(&mut front[at..at + k], &back[..k]);
+        return;
+    }
+    let at = (r - 1) * e;
+    let (front, back) = area.split_at_mut((d - 1) * e);
+    f(&mut back[..k], &front[at..at + k]);
+}
+
+// Composes the table of part r, the later, onto that of part d, the earlier.
+#[tactic(auto, unfolding(crate::specs::Parts::compose_at))]
 pub fn compose_onto(area: &mut [u32], measure: usize, n: usize, d: usize, r: usize)
     requires { (n ≤ 32) × Has (width_of measure n) (length area.old) d × Has (width_of measure n) (length area.old) r }
     ensures { area.new ≡ compose_at (kit measure n) area.old d d r }
@@ -63,17 +92,9 @@ pub fn compose_onto(area: &mut [u32], measure: usize, n: usize, d: usize, r: usi
         compose_itself(area, measure, n, d);
         return;
     }
-    let e = width(measure, n);
-    let k = measures::size(measure, n);
-    if d < r {
-        let at = (d - 1) * e;
-        let (front, back) = area.split_at_mut((r - 1) * e);
-        measures::compose(&mut front[at..at + k], &back[..k], measure, n);
-        return;
-    }
-    let at = (r - 1) * e;
-    let (front, back) = area.split_at_mut((d - 1) * e);
-    measures::compose(&mut back[..k], &front[at..at + k], measure, n);
+    on_both(area, measure, n, d, r, |left, right| {
+        measures::compose(left, right, measure, n)
+    });
 }
 
 // The same where the table of part r is the own table of pick r. Under measures 1 and 2 that is the pick's words, which are composed from where they are.
@@ -88,8 +109,9 @@ pub fn compose_own(area: &mut [u32], words: &[u32], measure: usize, n: usize, d:
     }
 }
 
-// The table of part l becomes that of part d; d may be l. The area is cut as for a composition, so that the copy is one move of memory: `copy_within` goes
-// word by word, which costs twice the instructions.
+// The table of part l becomes that of part d; d may be l. The copy is one move of memory: `copy_within` goes word by word, which costs twice the
+// instructions.
+#[tactic(auto, unfolding(crate::specs::Parts::copy_at))]
 pub fn copy_part(area: &mut [u32], measure: usize, n: usize, d: usize, l: usize)
     requires { (n ≤ 32) × (Has (width_of measure n) (length area.old) d × Has (width_of measure n) (length area.old) l) }
     ensures { area.new ≡ copy_at (kit measure n) area.old d l }
@@ -97,17 +119,14 @@ pub fn copy_part(area: &mut [u32], measure: usize, n: usize, d: usize, l: usize)
     if d == l {
         return;
     }
-    let e = width(measure, n);
-    let k = measures::size(measure, n);
-    if d < l {
-        let at = (d - 1) * e;
-        let (front, back) = area.split_at_mut((l - 1) * e);
-        front[at..at + k].copy_from_slice(&back[..k]);
-        return;
-    }
-    let at = (l - 1) * e;
-    let (front, back) = area.split_at_mut((d - 1) * e);
-    back[..k].copy_from_slice(&front[at..at + k]);
+    on_both(
+        area,
+        measure,
+        n,
+        d,
+        l,
+        |left, right| left.copy_from_slice(right),
+    );
 }
 
 // Part d becomes zero.

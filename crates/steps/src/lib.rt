@@ -5,7 +5,7 @@
 ghost use Rattle.std.specs.Prelude.{◌≡◌, true, not, ◌&&◌, ◌+◌, ◌-◌, ◌*◌, ◌≤◌, ◌<◌, length};
 ghost use Rattle.model.specs.Journey.{val};
 ghost use Rattle.place.specs.Places.{per_ladder};
-ghost use Rattle.area.specs.Parts.{compose_at, copy_at, zero_at};
+ghost use Rattle.area.specs.Parts.{table_at, compose_at, copy_at, zero_at};
 ghost use Rattle.steps.specs.Walk.{state, kit_of, ladder, rebuilt, joined, extended, entered, windowed, judged, tried, raised, again, climbed};
 ghost use Rattle.steps.specs.Alike.{finished};
 ghost use Rattle.steps.specs.Bare.{bare_tried, spared};
@@ -160,21 +160,32 @@ fn window(p: Place, area: &mut [u32]) -> Place
     p.charged(1)
 }
 
+// Whether the table in part `at` passes the test against the footprint, with the turn-round of 01. In line: as a call it costs a pick up to 27 instructions.
+#[inline(always)]
+fn passes_at(p: Place, area: &[u32], at: usize) -> bool
+    requires { Able p.settings (length area.now) × In p.settings at }
+    ensures { result ≡ (kit_of p.settings).pass (table_at (kit_of p.settings) area.now (p.settings.limit + 3)) (table_at (kit_of p.settings) area.now at) }
+{
+    let limit = p.settings.limit;
+    let turn = measures::turn_round();
+    area::passes_part(
+        area,
+        p.settings.measure,
+        p.settings.boards,
+        limit + 3,
+        at,
+        turn,
+    )
+}
+
 // The test of the window in part limit + 2; the area stays as it is.
+#[tactic(auto, unfolding(crate::specs::Walk::judged))]
 fn judge(p: Place, area: &[u32]) -> Place
     requires { Fit p (length area.now) 0 }
     ensures { result ≡ (judged (kit_of p.settings) (state p area.now)).place }
 {
     let limit = p.settings.limit;
-    let turn = measures::turn_round();
-    let passed = area::passes_part(
-        area,
-        p.settings.measure,
-        p.settings.boards,
-        limit + 3,
-        limit + 2,
-        turn,
-    );
+    let passed = passes_at(p, area, limit + 2);
     p.tested(passed)
 }
 
@@ -189,7 +200,8 @@ fn try_window(p: Place, area: &mut [u32]) -> Place
 }
 
 // The same where nobody looks at the area afterwards: a window that lies on one ladder is judged where it is, one of both ladders is composed only under
-// measure 4, and judged without being written under the others.
+// measure 4, and judged without being written under the others. A call of `passes_at` for each ladder: one for both, the part chosen before it, costs up to
+// 2.4 per cent more instructions a pick.
 fn judge_ladders(p: Place, area: &mut [u32]) -> Place
     requires { Fit p (length area.old) 1 × (spared p.settings ≡ true) }
     ensures { Does (bare_tried (kit_of p.settings)) p area.old result area.new }
@@ -199,28 +211,11 @@ fn judge_ladders(p: Place, area: &mut [u32]) -> Place
     let b = p.window.boundary;
     let limit = p.settings.limit;
     if b.0 < s.0 {
-        let at = limit + 1;
-        let turn = measures::turn_round();
-        let passed = area::passes_part(
-            area,
-            p.settings.measure,
-            p.settings.boards,
-            limit + 3,
-            at,
-            turn,
-        );
+        let passed = passes_at(p, area, limit + 1);
         return p.tested(passed);
     }
     if m.0 <= b.0 {
-        let turn = measures::turn_round();
-        let passed = area::passes_part(
-            area,
-            p.settings.measure,
-            p.settings.boards,
-            limit + 3,
-            s.0,
-            turn,
-        );
+        let passed = passes_at(p, area, s.0);
         return p.tested(passed);
     }
     if p.settings.measure == 4 {

@@ -7,11 +7,11 @@ use Rattle.steps.proofs.judge_ladders.Goals as goal
 
 pub returns-then-b-s : goal.returns-then-b-s
 returns-then-b-s c =
-    on-right _ _ c.requires.0 c.if-b-s.true (rw c.turn_round-turn.ensures at c.passes_part-passed.ensures) c.tested.ensures
+    on-right _ _ c.requires.0 c.if-b-s.true c.passes_at-passed.ensures c.tested.ensures
 
 pub returns-then-m-b : goal.returns-then-m-b
 returns-then-m-b c =
-    on-left _ _ c.requires.0 c.if-b-s.false c.if-m-b.true (rw c.turn_round-turn-then-m-b.ensures at c.passes_part-passed-then-m-b.ensures) c.tested-then-m-b.ensures
+    on-left _ _ c.requires.0 c.if-b-s.false c.if-m-b.true c.passes_at-passed-then-m-b.ensures c.tested-then-m-b.ensures
 
 pub returns-then-p-eq4 : goal.returns-then-p-eq4
 returns-then-p-eq4 c =
