@@ -1,5 +1,5 @@
 -- Numbers that a word of 32 bits holds, and places that are words again. Assumes nothing.
-use mathlib.Core.Path.{◌≡◌, refl, ap}
+use mathlib.Core.Path.{◌≡◌, refl}
 use mathlib.Core.Bool.{true}
 use Prim.Native.Nat.{ℕ, zero, suc, ◌≤◌, ◌<◌, ◌^◌}
 use native.Mathlib.Nat.{lt_of_le_of_lt}
@@ -7,12 +7,10 @@ use native.Mathlib.Omega.{arith}
 use lib.Dec.{eqb, lit<}
 use borrow.Author.Tests.{leb-true}
 use Rattle.model.specs.Journey.{val}
-use Rattle.place.specs.declared.Place.{Place}
 use Rattle.place.specs.Places.{most_counted}
 use Rattle.place.proofs.Laws.{and_left, and_right}
-use Rattle.calls.specs.Answers.{Handed, handed}
 use Rattle.crossing.specs.declared.PlaceWords.{PlaceWords}
-use Rattle.crossing.specs.Words.{flag, flags, place_of, words_of, handed_as, handed_words}
+use Rattle.crossing.specs.Words.{flag, flags, place_of, words_of}
 
 -- far below what a word holds
 pub small : {x : ℕ} → x ≤ most_counted → x < 2 ^ 32
@@ -29,8 +27,3 @@ flag_back (suc (suc x)) e = let h = leb-true (suc (suc x)) 1 e in absurd (omega 
 pub words_back : (p : PlaceWords) → flags p ≡ true → words_of (place_of p) ≡ p
 unfolding place_of words_of
 words_back p e = simp (flag_back p.failed (and_left _ _ e), flag_back p.passed (and_right (flag p.failed) _ e))
-
--- ---- answers as words, from what a call answered
-
-pub handed_is : {c x : ℕ} {p : Place} {r : PlaceWords} {h : Handed} → x ≡ c → r ≡ words_of p → handed c p ≡ h → handed_as x r ≡ handed_words h
-handed_is e f g = rw (e, f) (ap handed_words g)

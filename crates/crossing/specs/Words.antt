@@ -82,6 +82,9 @@ pub record Narrow (p : Place) : Type 0 where
   pub compositions : p.counts.compositions.0 < 2 ^ 32
   pub tests : p.counts.tests.0 < 2 ^ 32
 
+pub record NarrowHanded (h : Handed) : Type 0 where
+  pub place : Narrow h.place
+
 pub record NarrowAnswer (o : Outcome) : Type 0 where
   pub length : o.length < 2 ^ 32
   pub compositions : o.compositions < 2 ^ 32
@@ -90,6 +93,10 @@ pub record NarrowAnswer (o : Outcome) : Type 0 where
 pub record NarrowDecision (d : Decided) : Type 0 where
   pub compositions : d.compositions < 2 ^ 32
   pub tests : d.tests < 2 ^ 32
+
+pub record NarrowReading (r : Read) : Type 0 where
+  pub boards : r.boards < 2 ^ 32
+  pub picks : r.picks < 2 ^ 32
 
 pub record NarrowSaved (s : Saved) : Type 0 where
   pub length : s.length < 2 ^ 32

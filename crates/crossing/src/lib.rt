@@ -2,16 +2,18 @@
 #![tactic(auto)]
 
 ghost use Rattle.std.specs.Prelude.{◌≡◌, ◌<◌, ◌^◌};
-ghost use Rattle.calls.specs.Answers.{answer_says};
+ghost use Rattle.calls.specs.Answers.{handed_says, answer_says};
 ghost use Rattle.decision.specs.Decisions.{decision_says};
+ghost use Rattle.recording.specs.Answers.{reading_says};
 ghost use Rattle.saving.specs.Answers.{saving_says};
-ghost use Rattle.crossing.specs.Words.{flag, flags, place_of, words_of, answer_words, decision_words, saved_words};
-ghost use Rattle.crossing.specs.Words.{Narrow, NarrowAnswer, NarrowDecision, NarrowSaved};
+ghost use Rattle.crossing.specs.Words.{flag, flags, place_of, words_of, handed_words, answer_words, decision_words, reading_words, saved_words};
+ghost use Rattle.crossing.specs.Words.{Narrow, NarrowHanded, NarrowAnswer, NarrowDecision, NarrowReading, NarrowSaved};
 
-use calls::Answer;
+use calls::{Answer, Refused};
 use decision::Decision;
 use model::{Compositions, Pick, Refusal, Tests};
 use place::{Counts, Place, Settings, TestMarks, Window};
+use recording::Reading;
 
 // The place as ten words. A flag is 0 for no and 1 for yes.
 #[repr(C)]
@@ -154,6 +156,22 @@ pub fn words_of(p: Place) -> PlaceWords
     }
 }
 
+pub fn handed_words(h: Result<Place, Refused>) -> HandedWords
+    requires { NarrowHanded (handed_says h) }
+    ensures { result ≡ handed_words (handed_says h) }
+{
+    match h {
+        Ok(p) => HandedWords {
+            refusal: 0,
+            place: words_of(p),
+        },
+        Err(r) => HandedWords {
+            refusal: u32::from(r.cause),
+            place: words_of(r.place),
+        },
+    }
+}
+
 pub fn answer_words(a: Answer) -> AnswerWords
     requires { NarrowAnswer (answer_says a) }
     ensures { result ≡ answer_words (answer_says a) }
@@ -186,6 +204,24 @@ pub fn decision_words(d: Result<Decision, Refusal>) -> DecisionWords
             yes: 0,
             compositions: 0,
             tests: 0,
+        },
+    }
+}
+
+pub fn reading_words(r: Result<Reading, Refusal>) -> ReadingWords
+    requires { NarrowReading (reading_says r) }
+    ensures { result ≡ reading_words (reading_says r) }
+{
+    match r {
+        Ok(Reading { boards, picks }) => ReadingWords {
+            refusal: 0,
+            boards: narrow(boards),
+            picks: narrow(picks),
+        },
+        Err(c) => ReadingWords {
+            refusal: u32::from(c),
+            boards: 0,
+            picks: 0,
         },
     }
 }

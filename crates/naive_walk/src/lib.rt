@@ -195,7 +195,7 @@ impl Walk<'_> {
         requires { 1 ≤ self.now.recording.picks }
     {
         let mut x = Numbers::first(self.list_cost());
-        while x.m < self.recording.picks {
+        for _ in 0..self.recording.picks {
             x = self.step(x);
         }
         x
@@ -229,7 +229,10 @@ impl Walk<'_> {
         requires { (1 ≤ self.now.recording.picks) × (1 ≤ k) }
     {
         let mut x = Numbers::first(self.list_cost());
-        while !x.failed && x.m < self.recording.picks {
+        for _ in 0..self.recording.picks {
+            if x.failed {
+                break;
+            }
             x = self.held_step(k, x);
         }
         x

@@ -5,10 +5,11 @@ use mathlib.Core.Logic.{⊎_elim}
 use mathlib.Core.Option.{none, some}
 use mathlib.Core.List.{List}
 use Prim.Native.Nat.{ℕ, ◌+◌, ◌-◌, ◌*◌, ◌/◌, ◌≤◌, ◌<◌, ◌^◌}
-use native.Mathlib.Nat.{le_refl, mul-le-mul}
+use native.Mathlib.Nat.{le_refl, lt_of_le_of_lt, mul-le-mul}
 use native.Mathlib.Omega.{arith}
 use lib.Dec.{eqb, eqb→eq, ltb, lit<}
 use lib.ListN.{length}
+use Rattle.std.specs.Prelude.{Result, Ok, Err}
 use Rattle.model.specs.Causes.{first_of}
 use Rattle.model.specs.declared.Refusal.{Refusal}
 use Rattle.model.specs.Refusals.{number}
@@ -25,8 +26,9 @@ use Rattle.verdicts.proofs.Verdicts.{open_sound, pick_sound, whole_sound}
 use Rattle.steps.specs.Walk.{State, reported}
 use Rattle.steps.proofs.Ready.{Stepped, stepped_grown, sound_ready}
 use Rattle.model.proofs.Logic.{cond_ind, eq_or}
-use Rattle.calls.specs.Answers.{Handed, handed, outcome, answer_by}
-use Rattle.calls.specs.Calls.{open_says, pick_says, pick_leaves, report_says, length_says, unions, whole_start, whole_after, whole_report, whole_says}
+use Rattle.calls.specs.declared.Refused.{Refused}
+use Rattle.calls.specs.Answers.{Handed, outcome, answer_by, handed_says}
+use Rattle.calls.specs.Calls.{open_says, pick_says, report_says, length_says, unions, whole_start, whole_after, whole_report, whole_says}
 use Rattle.calls.specs.Fit.{Starts}
 use Rattle.calls.proofs.Taken.{taken_state, refused_state}
 use Rattle.calls.proofs.Opened.{opened_length}
@@ -34,15 +36,17 @@ use Rattle.calls.proofs.Loops.{walked, whole_starts, list-cost, length-unions}
 use Rattle.decision.specs.Decisions.{decided, decision_verdict, decision_report, decide_says}
 use Rattle.decision.proofs.Verdicts.{decision_sound}
 use Rattle.decision.proofs.Held.{held_counts}
+use Rattle.recording.specs.declared.Reading.{Reading}
+use Rattle.recording.specs.Answers.{reading_says, read_says}
+use Rattle.recording.proofs.Laws.{read_law}
 use Rattle.saving.specs.Answers.{saved, lent_file, save_says}
 use Rattle.saving.specs.May.{MaySave}
 use Rattle.saving.proofs.Most.{file_most}
 use Rattle.saving.proofs.Causes.{save_exactly, save_fits, save_refused}
 use Rattle.crossing.specs.declared.PlaceWords.{PlaceWords}
-use Rattle.crossing.specs.declared.HandedWords.{HandedWords}
-use Rattle.crossing.specs.Words.{flags, place_of, words_of, handed_as, handed_words, Narrow, NarrowAnswer, NarrowDecision, NarrowSaved}
+use Rattle.crossing.specs.Words.{flags, place_of, words_of, handed_as, handed_words}
+use Rattle.crossing.specs.Words.{Narrow, NarrowHanded, NarrowAnswer, NarrowDecision, NarrowReading, NarrowSaved}
 use Rattle.crossing.proofs.Fits.{small, words_back}
-use Rattle.nookmallow.specs.Boundary.{pick_answers, pick_keeps}
 
 -- ---- opening
 
@@ -72,12 +76,13 @@ nowhere_narrow = record {
   tests = lit< tt;
 }
 
-pub open_narrow : (n measure limit : ℕ) (footprint a : List ℕ) → Narrow (open_says n measure limit footprint a).place
+pub open_narrow : (n measure limit : ℕ) (footprint a : List ℕ) → NarrowHanded (open_says n measure limit footprint a)
 unfolding open_says
-open_narrow n measure limit footprint a =
-    cond_ind Narrow (eqb (open_verdict n measure limit footprint a) 0) (fresh measure n limit) nowhere
-    (λ t. let o = open_sound n measure limit footprint a (eqb→eq _ _ t) in fresh_narrow n measure limit o.few o.measure_high o.cap)
-    (λ t. nowhere_narrow)
+open_narrow n measure limit footprint a = record {
+  place = cond_ind Narrow (eqb (open_verdict n measure limit footprint a) 0) (fresh measure n limit) nowhere
+      (λ t. let o = open_sound n measure limit footprint a (eqb→eq _ _ t) in fresh_narrow n measure limit o.few o.measure_high o.cap)
+      (λ t. nowhere_narrow);
+}
 
 -- ---- pick
 
@@ -106,11 +111,19 @@ stepped_narrow s h t =
       tests = small (omega arith);
     }
 
-pub pick_narrow : (p : Place) (a w : List ℕ) → pick_verdict p a w ≡ 0 → Narrow (pick_says p a w).place
+pub pick_narrow : (p : Place) (a w : List ℕ) → pick_verdict p a w ≡ 0 → NarrowHanded (pick_says p a w)
 pick_narrow p a w e =
     let t = pick_sound p a w e in
-    subst (λ (x : State). Narrow x.place) (sym (taken_state p a w e))
-    (stepped_narrow t.sound t.below (stepped_grown p a w (sound_ready t.sound t.room)))
+    let q = stepped_narrow t.sound t.below (stepped_grown p a w (sound_ready t.sound t.room)) in
+    record { place = subst (λ (x : State). Narrow x.place) (sym (taken_state p a w e)) q }
+
+-- a pick that is refused leaves the place that the words stand for, so that the words handed back are its own
+pub refused_back : (p : PlaceWords) (a w : List ℕ) (r : Refused) → flags p ≡ true → handed_says (Err r) ≡ pick_says (place_of p) a w
+    → handed_as (number r.cause) p ≡ handed_words (pick_says (place_of p) a w)
+refused_back p a w r f g =
+    let v : number r.cause ≡ pick_verdict (place_of p) a w = ap (λ (h : Handed). h.refusal) g in
+    let s = refused_state (place_of p) a w (ap (λ (k : ℕ). eqb k 0) (sym v) ∙ number_some r.cause) in
+    ap₂ handed_as v (sym (words_back p f) ∙ ap (λ (st : State). words_of st.place) (sym s))
 
 -- ---- length
 
@@ -223,33 +236,13 @@ save_narrow n w out =
     (λ f. subst NarrowSaved (sym (save_refused n w out f).0) (record { length = lit< tt }))
     (eq_or (save_says n w out).refusal 0)
 
--- ---- answers as words, from what a call answered
+-- ---- reading
 
--- the flags are flags: the answer is that of the call, on the place that the words stand for
-pub picked_is : (p : PlaceWords) (a w : List ℕ) {q : Place} {r : HandedWords} → flags p ≡ true → q ≡ place_of p
-    → r ≡ handed_words (pick_says q a w) → r ≡ pick_answers p a w
-unfolding pick_answers
-picked_is p a w e f g = rw e (g ∙ ap (λ (x : Place). handed_words (pick_says x a w)) f)
-
-pub kept_is : (p : PlaceWords) (a w : List ℕ) {q : Place} {b : List ℕ} → flags p ≡ true → q ≡ place_of p → b ≡ pick_leaves q a w
-    → b ≡ pick_keeps p a w
-unfolding pick_keeps
-kept_is p a w e f g = rw e (g ∙ ap (λ (x : Place). pick_leaves x a w) f)
-
--- a refused pick: the ten words are handed back
-pub refused_is : (p : PlaceWords) (a w : List ℕ) {x : ℕ} (c : Refusal) {q o : Place} → flags p ≡ true → q ≡ place_of p → x ≡ number c
-    → handed (number c) o ≡ pick_says q a w
-    → handed_as x p ≡ pick_answers p a w
-refused_is p a w c {q} f d e g =
-    let v : number c ≡ pick_verdict q a w = ap (λ (h : Handed). h.refusal) g in
-    let s = refused_state q a w (ap (λ (k : ℕ). eqb k 0) (sym v) ∙ number_some c) in
-    picked_is p a w f d (ap₂ handed_as (e ∙ v) (sym (words_back p f) ∙ ap words_of (sym d) ∙ ap (λ (st : State). words_of st.place) (sym s)))
-
--- a flag is none
-pub flag_refused : (p : PlaceWords) (a w : List ℕ) → flags p ≡ false → handed_as 16 p ≡ pick_answers p a w
-unfolding pick_answers
-flag_refused p a w e = rw e
-
-pub flag-kept : (p : PlaceWords) (a w : List ℕ) → flags p ≡ false → a ≡ pick_keeps p a w
-unfolding pick_keeps
-flag-kept p a w e = rw e
+-- n is at most 32, and the picks are no more than the limit that the call has as a word
+pub read_narrow : (limit : ℕ) (bytes out : List ℕ) (r : Result Reading Refusal) → reading_says r ≡ read_says limit bytes out → limit < 2 ^ 32
+    → NarrowReading (reading_says r)
+read_narrow limit bytes out (Ok k) e h =
+    let g = read_law limit bytes out k.boards k.picks (sym e) in
+    let high = g.high in
+    record { boards = small (omega arith); picks = lt_of_le_of_lt g.few h }
+read_narrow limit bytes out (Err c) e h = record { boards = lit< tt; picks = lit< tt }

@@ -11,12 +11,12 @@ ghost use Rattle.saving.specs.Answers.{save_says, save_leaves};
 ghost use Rattle.crossing.specs.Words.{handed_words, answer_words, measured_words, decision_words, reading_words, saved_words};
 ghost use Rattle.nookmallow.specs.Boundary.{pick_answers, pick_keeps, length_answers};
 
+use calls::Answer;
 use crossing::{
     AnswerWords, DecisionWords, HandedWords, MeasuredWords, PlaceWords, ReadingWords, SavedWords,
 };
 use model::Refusal;
 use place::Place;
-use recording::Reading;
 
 // The version of the format of the place and of the area.
 pub fn nookmallow_version() -> u32
@@ -26,6 +26,7 @@ pub fn nookmallow_version() -> u32
 }
 
 // Opens a walk over n boards.
+#[tactic(auto, using(crate::proofs::Bounds::open_narrow))]
 pub fn nookmallow_open(
     n: u32,
     measure: u32,
@@ -35,25 +36,17 @@ pub fn nookmallow_open(
 ) -> HandedWords
     ensures { (result ≡ handed_words (open_says n measure limit footprint.now area.old)) × (area.new ≡ open_leaves n measure limit footprint.now area.old) }
 {
-    match calls::open(
+    crossing::handed_words(calls::open(
         n as usize,
         measure as usize,
         limit as usize,
         footprint,
         area,
-    ) {
-        Ok(p) => HandedWords {
-            refusal: 0,
-            place: crossing::words_of(p),
-        },
-        Err(r) => HandedWords {
-            refusal: u32::from(r.cause),
-            place: crossing::words_of(r.place),
-        },
-    }
+    ))
 }
 
 // Takes a pick.
+#[tactic(auto, using(crate::proofs::Bounds::pick_narrow, crate::proofs::Bounds::refused_back), unfolding(crate::specs::Boundary::pick_answers, crate::specs::Boundary::pick_keeps))]
 pub fn nookmallow_pick(p: PlaceWords, area: &mut [u32], words: &[u32]) -> HandedWords
     ensures { (result ≡ pick_answers p area.old words.now) × (area.new ≡ pick_keeps p area.old words.now) }
 {
@@ -63,29 +56,23 @@ pub fn nookmallow_pick(p: PlaceWords, area: &mut [u32], words: &[u32]) -> Handed
             place: p,
         };
     }
-    match calls::pick(Place::from(p), area, words) {
-        Ok(q) => HandedWords {
-            refusal: 0,
-            place: crossing::words_of(q),
-        },
-        Err(r) => HandedWords {
+    let handed = calls::pick(Place::from(p), area, words);
+    if let Err(r) = handed {
+        // The caller's own words: made anew from the place, they cost 13 or 14 instructions at every pick.
+        return HandedWords {
             refusal: u32::from(r.cause),
             place: p,
-        },
+        };
     }
+    crossing::handed_words(handed)
 }
 
-#[tactic(auto, unfolding(crate::specs::Boundary::length_answers))]
+#[tactic(auto, using(crate::proofs::Bounds::length_narrow), unfolding(crate::specs::Boundary::length_answers))]
 fn length_words(p: PlaceWords) -> AnswerWords
     ensures { result ≡ answer_words (length_answers p) }
 {
     if !crossing::are_flags(p) {
-        return AnswerWords {
-            refusal: u32::from(Refusal::BadPlace),
-            length: 0,
-            compositions: 0,
-            tests: 0,
-        };
+        return crossing::answer_words(Answer::refused(Refusal::BadPlace));
     }
     crossing::answer_words(calls::length(Place::from(p)).answer)
 }
@@ -105,6 +92,7 @@ pub fn nookmallow_length(p: PlaceWords) -> MeasuredWords
 }
 
 // The length of a recording lent whole, n words a pick.
+#[tactic(auto, using(crate::proofs::Bounds::whole_narrow))]
 pub fn nookmallow_whole(n: u32, measure: u32, words: &[u32], area: &mut [u32]) -> AnswerWords
     ensures { (result ≡ answer_words (whole_says n measure words.now area.old)) × (area.new ≡ whole_leaves n measure words.now area.old) }
 {
@@ -112,6 +100,7 @@ pub fn nookmallow_whole(n: u32, measure: u32, words: &[u32], area: &mut [u32]) -
 }
 
 // Whether every window of k picks passes, of a recording lent whole.
+#[tactic(auto, using(crate::proofs::Bounds::decide_narrow))]
 pub fn nookmallow_decide(
     n: u32,
     measure: u32,
@@ -130,31 +119,21 @@ pub fn nookmallow_decide(
 pub fn nookmallow_table(n: u32, words: &[u32], out: &mut [u32]) -> u32
     ensures { (result ≡ table_verdict n words.now out.old) × (out.new ≡ table_leaves n words.now out.old) }
 {
-    match reach::table(n as usize, words, out) {
-        Ok(()) => 0,
-        Err(c) => u32::from(c),
-    }
+    reach::table(n as usize, words, out)
+        .err()
+        .map_or(0, u32::from)
 }
 
 // Reads a recording file: n and the number of picks, and their words into out.
+#[tactic(auto, using(crate::proofs::Bounds::read_narrow))]
 pub fn nookmallow_read(bytes: &[u8], limit: u32, out: &mut [u32]) -> ReadingWords
     ensures { (result ≡ reading_words (read_says limit bytes.now out.old)) × (out.new ≡ read_leaves limit bytes.now out.old) }
 {
-    match recording::read(bytes, limit as usize, out) {
-        Ok(Reading { boards, picks }) => ReadingWords {
-            refusal: 0,
-            boards: crossing::narrow(boards),
-            picks: crossing::narrow(picks),
-        },
-        Err(c) => ReadingWords {
-            refusal: u32::from(c),
-            boards: 0,
-            picks: 0,
-        },
-    }
+    crossing::reading_words(recording::read(bytes, limit as usize, out))
 }
 
 // Writes the recording file of a recording lent whole, n words a pick, into the first bytes of out.
+#[tactic(auto, using(crate::proofs::Bounds::save_narrow))]
 pub fn nookmallow_save(n: u32, words: &[u32], out: &mut [u8]) -> SavedWords
     ensures { (result ≡ saved_words (save_says n words.now out.old))
         × (out.new ≡ save_leaves n words.now out.old) }

@@ -1,7 +1,7 @@
--- `naive_walk::Walk::whole` ends: each step takes one of the picks that are left.
+-- `naive_walk::Walk::whole` meets its contract: a pick is taken in each turn, so that none is beyond 4096.
 -- Assumes nothing.
-use Rattle.std.proofs.Common.{◌-◌}
+use Rattle.std.proofs.Common.{◌≡◌}
 use Rattle.naive_walk.proofs.Walk.whole.Given as goal
 
-abbrev pub decreases-loop-x : goal.decreases-loop-x
-decreases-loop-x l = l.self.recording.picks - l.x.m
+abbrev pub invariant-loop : goal.invariant-loop
+invariant-loop l = l.x.m ≡ l.counter
