@@ -2,49 +2,67 @@
 #![tactic(auto)]
 
 use compare_cases::{LINKS, MARK, fill_by_turns, is_marked};
-use compare_rows::{Edge, OPEN_EDGES, READ_EDGES, TABLE_EDGES, WHOLE_EDGES};
+use compare_rows::{
+    Edge, OPEN_EDGES, READ_EDGES, ReadEdge, TABLE_EDGES, WHOLE_EDGES, Whole, compare_edges, put_own,
+};
 use compare_tallies::{Call, Case, Group, Outcome, Tally};
 use model::Refusal;
-use place::Place;
+use place::{Place, Settings};
 use std::io::Stdout;
 
 // ---- rows
 
-// What a call answers of a row: it is handed the words lent, which hold the row's own word beside others, and an area.
-fn run<F: Fn(&Edge, &[u32], &mut [u32]) -> Outcome>(
-    edge: &Edge,
+// What a call answers that is lent the first words of the area, as many as there is room.
+fn run_in<F: FnOnce(&mut [u32]) -> Outcome>(room: usize, area: &mut [u32], call: F) -> Outcome
+    requires { F.IsAlwaysCallable call }
+{
+    if area.len() < room {
+        return Outcome::NotRun;
+    }
+    let room = &mut area[..room];
+    room.fill(MARK);
+    let outcome = call(room);
+    outcome.left(is_marked(room))
+}
+
+// What a call answers of a row: it is handed the settings, the words lent, which are others by turns but for the row's own, and an area.
+fn run<S: Copy, F: Fn(S, &[u32], &mut [u32]) -> Outcome>(
+    edge: &Edge<S>,
+    others: [u32; 2],
     words: &mut [u32],
     area: &mut [u32],
     call: F,
 ) -> Outcome
     requires { F.IsAlwaysCallable call }
 {
-    if words.len() < edge.lent || area.len() < edge.room {
+    if words.len() < edge.lent {
         return Outcome::NotRun;
     }
-    if let Some(word) = words.get_mut(edge.at) {
-        *word = edge.word;
-    }
-    let room = &mut area[..edge.room];
-    room.fill(MARK);
-    let outcome = call(edge, &words[..edge.lent], room);
-    outcome.left(is_marked(room))
+    fill_by_turns(words, others);
+    put_own(words, edge.own);
+    let lent = &words[..edge.lent];
+    run_in(edge.room, area, |room| call(edge.settings, lent, room))
 }
 
 // ---- the calls: their counts, and yes or no, left out
 
-fn whole(edge: &Edge, words: &[u32], area: &mut [u32]) -> Outcome {
-    let answer = calls::whole(edge.boards, edge.measure, words, area);
+fn whole(settings: Whole, words: &[u32], area: &mut [u32]) -> Outcome {
+    let answer = calls::whole(settings.boards, settings.measure, words, area);
     answer.length.err().into()
 }
 
-fn table(edge: &Edge, words: &[u32], out: &mut [u32]) -> Outcome {
-    reach::table(edge.boards, words, out).err().into()
+fn table(boards: usize, words: &[u32], out: &mut [u32]) -> Outcome {
+    reach::table(boards, words, out).err().into()
 }
 
 // A refused opening hands back the place of zeros and noes.
-fn opening(edge: &Edge, list: &[u32], area: &mut [u32]) -> Outcome {
-    match calls::open(edge.boards, edge.measure, edge.limit, list, area) {
+fn opening(settings: Settings, list: &[u32], area: &mut [u32]) -> Outcome {
+    let Settings {
+        boards,
+        measure,
+        limit,
+    } = settings;
+    match calls::open(boards, measure, limit, list, area) {
         Ok(_) => Outcome::from(None),
         Err(refused) if refused.place == Place::NOWHERE => Some(refused.cause).into(),
         Err(refused) => Outcome::Changed(Some(refused.cause)),
@@ -52,10 +70,14 @@ fn opening(edge: &Edge, list: &[u32], area: &mut [u32]) -> Outcome {
 }
 
 // Of a file with two boards and two picks.
-fn reading(edge: &Edge, _words: &[u32], out: &mut [u32]) -> Outcome {
+fn reading(edge: &ReadEdge, area: &mut [u32]) -> Outcome {
     let file = [0x42u8, 0x02, 0x50, 0x50, 0x45];
     match file.get(..edge.lent) {
-        Some(bytes) => recording::read(bytes, edge.limit, out).err().into(),
+        Some(bytes) => run_in(
+            edge.room,
+            area,
+            |out| recording::read(bytes, edge.limit, out).err().into(),
+        ),
         None => Outcome::NotRun,
     }
 }
@@ -71,11 +93,10 @@ fn decide_refusal(refusal: Option<Refusal>, k: usize, picks: usize) -> Option<Re
 // Each row of a whole run is asked with five window lengths: 0, 1, the number of picks, one more, and the largest number.
 fn compare_decisions(tally: &mut Tally, words: &mut [u32], area: &mut [u32]) {
     for edge in WHOLE_EDGES {
-        let picks = edge.lent.checked_div(edge.boards).unwrap_or(0);
+        let picks = edge.lent.checked_div(edge.settings.boards).unwrap_or(0);
         for k in [0, 1, picks, picks.wrapping_add(1), usize::MAX] {
-            fill_by_turns(words, LINKS);
-            let got = run(edge, words, area, |edge, words, area| {
-                let decision = decision::decide(edge.boards, edge.measure, words, k, area);
+            let got = run(edge, LINKS, words, area, |settings, words, area| {
+                let decision = decision::decide(settings.boards, settings.measure, words, k, area);
                 decision.err().into()
             });
             tally.compare_row(got, decide_refusal(edge.refusal, k, picks));
@@ -85,31 +106,28 @@ fn compare_decisions(tally: &mut Tally, words: &mut [u32], area: &mut [u32]) {
 
 // ---- all tables
 
-// The words lent are others by turns, but for the row's own.
-fn compare_edges<F: Fn(&Edge, &[u32], &mut [u32]) -> Outcome>(
-    tally: &mut Tally,
-    edges: &[Edge],
-    others: [u32; 2],
-    words: &mut [u32],
-    area: &mut [u32],
-    call: F,
-)
-    requires { F.IsAlwaysCallable call }
-{
-    for edge in edges {
-        fill_by_turns(words, others);
-        tally.compare_row(run(edge, words, area, &call), edge.refusal);
-    }
-}
-
 pub fn tally(out: Stdout, call: Call, words: &mut [u32], area: &mut [u32]) -> Tally {
     let mut tally = Tally::new(out, Group::Edges(call));
     match call {
-        Call::Whole => compare_edges(&mut tally, WHOLE_EDGES, LINKS, words, area, whole),
+        Call::Whole => compare_edges(
+            &mut tally,
+            WHOLE_EDGES,
+            |edge| run(edge, LINKS, words, area, whole),
+        ),
         Call::Decide => compare_decisions(&mut tally, words, area),
-        Call::Table => compare_edges(&mut tally, TABLE_EDGES, LINKS, words, area, table),
-        Call::Open => compare_edges(&mut tally, OPEN_EDGES, [0, 0], words, area, opening),
-        Call::Read => compare_edges(&mut tally, READ_EDGES, LINKS, words, area, reading),
+        Call::Table => compare_edges(
+            &mut tally,
+            TABLE_EDGES,
+            |edge| run(edge, LINKS, words, area, table),
+        ),
+        Call::Open => compare_edges(
+            &mut tally,
+            OPEN_EDGES,
+            |edge| run(edge, [0, 0], words, area, opening),
+        ),
+        Call::Read => for edge in READ_EDGES {
+            tally.compare_row(reading(edge, area), edge.refusal);
+        },
         Call::Pick(measure) => compare_walk_edges::compare_picks(&mut tally, measure, area, words),
         Call::Altered => compare_walk_edges::compare_places(&mut tally, area, words),
     }

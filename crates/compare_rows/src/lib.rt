@@ -10,249 +10,307 @@ use model::Refusal::{
 use model::{Compositions, Pick, Refusal, Tests};
 use place::{Counts, Place, Settings, TestMarks, Window};
 
-// What a call is handed, and the refusal of it. A table has 0 in a field that its call does not have.
-pub struct Edge {
-    pub boards: usize,
-    pub measure: usize,
-    pub limit: usize,
+// What a call that is lent words is handed, and the refusal of it. Its settings are those that the call has, and no others.
+pub struct Edge<S> {
+    pub settings: S,
     // how many words are lent
     pub lent: usize,
-    // one of them, by its index, and what it is
-    pub at: usize,
-    pub word: u32,
+    // one of them that is not as the others of the table, by its index, and what it is
+    pub own: Option<(usize, u32)>,
     // the words of the area or of the output, or the bytes of the output
     pub room: usize,
     pub refusal: Option<Refusal>,
 }
 
-// A row stands in one line: the fields in their order.
-macro_rules! edges {
-    ($(($boards:expr, $measure:expr, $limit:expr, $lent:expr, $at:expr, $word:expr, $room:expr, $refusal:expr),)*) => {
-        [$(Edge { boards: $boards, measure: $measure, limit: $limit, lent: $lent, at: $at, word: $word, room: $room, refusal: $refusal },)*]
-    };
+// Puts a row's own word among the words lent.
+pub fn put_own(words: &mut [u32], own: Option<(usize, u32)>) {
+    if let Some((at, word)) = own {
+        if let Some(lent) = words.get_mut(at) {
+            *lent = word;
+        }
+    }
 }
 
-// ---- a whole run
-
-// The other words lent are 2 and 1 by turns: both links of two boards.
-pub static WHOLE_EDGES: &[Edge] = &edges![
-    // an area exact to the word, and one word less
-    (2, 3, 0, 2, 0, 2, 10, None),
-    (2, 3, 0, 2, 0, 2, 9, Some(Room)),
-    (2, 4, 0, 2, 0, 2, 40, None),
-    (2, 4, 0, 2, 0, 2, 39, Some(Room)),
-    (32, 3, 0, 32, 0, 2, 160, Some(NoLength)),
-    (32, 3, 0, 32, 0, 2, 159, Some(Room)),
-    (32, 4, 0, 32, 0, 2, 10240, Some(NoLength)),
-    (32, 4, 0, 32, 0, 2, 10239, Some(Room)),
-    (2, 3, 0, 8192, 0, 2, 8200, None),
-    (2, 3, 0, 8192, 0, 2, 8199, Some(Room)),
-    // boards, measures, picks
-    (1, 3, 0, 1, 0, 2, 20000, Some(Boards)),
-    (33, 3, 0, 33, 0, 2, 20000, Some(Boards)),
-    (2, 0, 0, 2, 0, 2, 40, Some(Measure)),
-    (2, 5, 0, 2, 0, 2, 40, Some(Measure)),
-    (2, 3, 0, 8194, 0, 2, 8202, Some(Picks)),
-    (2, 3, 0, 1, 0, 2, 40, Some(Shape)),
-    (2, 3, 0, 3, 0, 2, 40, Some(Shape)),
-    (2, 3, 0, 0, 0, 2, 40, Some(NoPick)),
-    // a board's own bit
-    (2, 1, 0, 2, 0, 1, 10, Some(Forbidden)),
-    (2, 2, 0, 2, 0, 3, 10, Some(Forbidden)),
-    (2, 3, 0, 8192, 8191, 2, 8200, Some(Forbidden)),
-    (2, 4, 0, 2, 1, 3, 40, Some(Forbidden)),
-    (32, 3, 0, 32, 31, 2147483648, 160, Some(Forbidden)),
-    // a bit of a board n or above
-    (2, 1, 0, 2, 0, 4, 10, Some(Forbidden)),
-    (2, 2, 0, 2, 1, 5, 10, Some(Forbidden)),
-    (2, 3, 0, 2, 0, 6, 10, Some(Forbidden)),
-    (2, 4, 0, 2, 0, 2147483650, 40, Some(Forbidden)),
-    (31, 3, 0, 31, 0, 2147483650, 155, Some(Forbidden)),
-    (32, 3, 0, 32, 0, 2147483650, 160, Some(NoLength)),
-    // two causes
-    (1, 0, 0, 1, 0, 2, 40, Some(Boards)),
-    (33, 3, 0, 34, 0, 2, 40, Some(Boards)),
-    (2, 5, 0, 3, 0, 2, 40, Some(Measure)),
-    (2, 0, 0, 0, 0, 2, 40, Some(Measure)),
-    (2, 3, 0, 8195, 0, 2, 20000, Some(Shape)),
-    (2, 3, 0, 3, 0, 1, 0, Some(Shape)),
-    (2, 3, 0, 0, 0, 2, 0, Some(NoPick)),
-    (2, 3, 0, 8194, 0, 2, 0, Some(Picks)),
-    (2, 3, 0, 8194, 0, 1, 20000, Some(Picks)),
-    (2, 3, 0, 2, 0, 1, 9, Some(Room)),
-    (3, 3, 0, 3, 0, 1, 15, Some(Forbidden)),
-];
-
-// ---- the table of reach
-
-// The other words lent are as above.
-pub static TABLE_EDGES: &[Edge] = &edges![
-    // an output exact to the word, and one word less
-    (2, 0, 0, 2, 0, 2, 2, None),
-    (2, 0, 0, 2, 0, 2, 1, Some(Room)),
-    (32, 0, 0, 32, 0, 2, 32, None),
-    (32, 0, 0, 32, 0, 2, 31, Some(Room)),
-    // boards, picks
-    (1, 0, 0, 1, 0, 2, 40, Some(Boards)),
-    (33, 0, 0, 33, 0, 2, 40, Some(Boards)),
-    (2, 0, 0, 8192, 0, 2, 2, None),
-    (2, 0, 0, 8194, 0, 2, 2, Some(Picks)),
-    (2, 0, 0, 1, 0, 2, 2, Some(Shape)),
-    (2, 0, 0, 3, 0, 2, 2, Some(Shape)),
-    (2, 0, 0, 0, 0, 2, 2, Some(NoPick)),
-    // a board's own bit
-    (2, 0, 0, 2, 0, 3, 2, Some(Forbidden)),
-    (2, 0, 0, 8192, 8191, 2, 2, Some(Forbidden)),
-    (32, 0, 0, 32, 31, 2147483648, 32, Some(Forbidden)),
-    // a bit of a board n or above
-    (2, 0, 0, 2, 1, 5, 2, Some(Forbidden)),
-    (31, 0, 0, 31, 0, 2147483650, 31, Some(Forbidden)),
-    (32, 0, 0, 32, 0, 2147483650, 32, None),
-    // two causes
-    (33, 0, 0, 34, 0, 2, 0, Some(Boards)),
-    (2, 0, 0, 8195, 0, 2, 2, Some(Shape)),
-    (2, 0, 0, 3, 0, 1, 1, Some(Shape)),
-    (2, 0, 0, 0, 0, 2, 1, Some(NoPick)),
-    (2, 0, 0, 8194, 0, 2, 1, Some(Picks)),
-    (2, 0, 0, 8194, 0, 1, 2, Some(Picks)),
-    (2, 0, 0, 2, 0, 1, 1, Some(Room)),
-];
-
-// ---- opening
-
-// The words lent are a list, and its first word is given, the others being 0.
-pub static OPEN_EDGES: &[Edge] = &edges![
-    // an area exact to the word, and one word less
-    (2, 3, 1, 2, 0, 0, 10, None),
-    (2, 3, 1, 2, 0, 0, 9, Some(Room)),
-    (32, 4, 1, 2, 0, 0, 10240, None),
-    (32, 4, 1, 2, 0, 0, 10239, Some(Room)),
-    (2, 3, 4096, 2, 0, 0, 8200, None),
-    (2, 3, 4096, 2, 0, 0, 8199, Some(Room)),
-    // boards, measures, limits
-    (1, 3, 1, 2, 0, 0, 20000, Some(Boards)),
-    (33, 3, 1, 2, 0, 0, 20000, Some(Boards)),
-    (2, 0, 1, 2, 0, 0, 40, Some(Measure)),
-    (2, 5, 1, 2, 0, 0, 40, Some(Measure)),
-    (2, 3, 0, 2, 0, 0, 20000, Some(Picks)),
-    (2, 3, 4097, 2, 0, 0, 20000, Some(Picks)),
-    // a list: it may hold no link, and has n words
-    (2, 2, 1, 2, 0, 0, 10, None),
-    (2, 2, 1, 2, 0, 2, 10, None),
-    (32, 2, 1, 32, 0, 4294967294, 160, None),
-    (2, 2, 1, 0, 0, 0, 10, Some(Shape)),
-    (2, 2, 1, 1, 0, 2, 10, Some(Shape)),
-    (2, 2, 1, 3, 0, 2, 10, Some(Shape)),
-    (3, 2, 1, 2, 0, 0, 100, Some(Shape)),
-    // a board's own bit, a bit of a board n or above
-    (2, 2, 1, 2, 0, 1, 10, Some(Forbidden)),
-    (32, 2, 1, 32, 0, 1, 160, Some(Forbidden)),
-    (2, 2, 1, 2, 0, 4, 10, Some(Forbidden)),
-    (31, 2, 1, 31, 0, 2147483648, 155, Some(Forbidden)),
-    // the other measures read no list
-    (2, 1, 1, 3, 0, 1, 10, None),
-    (2, 3, 1, 0, 0, 0, 10, None),
-    (2, 4, 1, 2, 0, 7, 40, None),
-    // two causes
-    (1, 0, 1, 2, 0, 0, 10, Some(Boards)),
-    (33, 2, 0, 2, 0, 0, 10, Some(Boards)),
-    (2, 5, 0, 2, 0, 0, 10, Some(Measure)),
-    (2, 0, 1, 2, 0, 0, 0, Some(Measure)),
-    (2, 2, 0, 3, 0, 0, 10, Some(Picks)),
-    (2, 2, 4097, 2, 0, 1, 10, Some(Picks)),
-    (2, 3, 4097, 2, 0, 0, 0, Some(Picks)),
-    (2, 2, 1, 3, 0, 1, 10, Some(Shape)),
-    (2, 2, 1, 3, 0, 0, 9, Some(Shape)),
-    (2, 2, 1, 2, 0, 1, 9, Some(Forbidden)),
-];
-
-// ---- reading a file
-
-// Bytes are lent, of 42 02 50 50 45. What a file alone can show is in `compare`.
-pub static READ_EDGES: &[Edge] = &edges![
-    // an output exact to the word, and one word less
-    (0, 0, 2, 5, 0, 0, 4, None),
-    (0, 0, 2, 5, 0, 0, 3, Some(Room)),
-    (0, 0, 4096, 5, 0, 0, 8192, None),
-    (0, 0, 4096, 5, 0, 0, 8191, Some(Room)),
-    // the limit
-    (0, 0, 0, 5, 0, 0, 4, Some(Picks)),
-    (0, 0, 4097, 5, 0, 0, 20000, Some(Picks)),
-    (0, 0, 1, 5, 0, 0, 4, Some(Full)),
-    // two causes
-    (0, 0, 0, 0, 0, 0, 4, Some(Picks)),
-    (0, 0, 4097, 5, 0, 0, 0, Some(Picks)),
-    (0, 0, 2, 1, 0, 0, 3, Some(Stopped)),
-    (0, 0, 1, 5, 0, 0, 1, Some(Room)),
-];
-
-// ---- saving a recording
-
-// The other words lent are as for a whole run.
-pub static SAVE_EDGES: &[Edge] = &edges![
-    // an output exact to the byte, one byte less, and one that is longer
-    (2, 0, 0, 2, 0, 2, 10, None),
-    (2, 0, 0, 2, 0, 2, 9, Some(FileRoom)),
-    (2, 0, 0, 2, 0, 2, 11, None),
-    (2, 0, 0, 2, 0, 2, 0, Some(FileRoom)),
-    (32, 0, 0, 32, 0, 2, 100, None),
-    (32, 0, 0, 32, 0, 2, 99, Some(FileRoom)),
-    (2, 0, 0, 8192, 0, 2, 4105, None),
-    (2, 0, 0, 8192, 0, 2, 4104, Some(FileRoom)),
-    // no picks
-    (2, 0, 0, 0, 0, 2, 3, None),
-    (2, 0, 0, 0, 0, 2, 2, Some(FileRoom)),
-    (2, 0, 0, 0, 0, 2, 0, Some(FileRoom)),
-    (32, 0, 0, 0, 0, 2, 3, None),
-    (32, 0, 0, 0, 0, 2, 2, Some(FileRoom)),
-    // a link that stays shut, one that shuts in the last pick, and one that opens there
-    (2, 0, 0, 2, 0, 0, 7, None),
-    (2, 0, 0, 2, 0, 0, 6, Some(FileRoom)),
-    (2, 0, 0, 4, 2, 0, 14, None),
-    (2, 0, 0, 4, 2, 0, 13, Some(FileRoom)),
-    (2, 0, 0, 4, 1, 0, 11, None),
-    (2, 0, 0, 4, 1, 0, 10, Some(FileRoom)),
-    // boards, picks
-    (0, 0, 0, 0, 0, 2, 40, Some(Boards)),
-    (1, 0, 0, 1, 0, 0, 40, Some(Boards)),
-    (33, 0, 0, 33, 0, 2, 200, Some(Boards)),
-    (usize::MAX, 0, 0, 0, 0, 2, 40, Some(Boards)),
-    (2, 0, 0, 8194, 0, 2, 4106, Some(Picks)),
-    (2, 0, 0, 1, 0, 2, 40, Some(Shape)),
-    (2, 0, 0, 3, 0, 2, 40, Some(Shape)),
-    (32, 0, 0, 31, 0, 2, 200, Some(Shape)),
-    (32, 0, 0, 33, 0, 2, 200, Some(Shape)),
-    // a board's own bit
-    (2, 0, 0, 2, 0, 3, 40, Some(Forbidden)),
-    (2, 0, 0, 8192, 8191, 2, 8192, Some(Forbidden)),
-    (32, 0, 0, 32, 31, 2147483648, 200, Some(Forbidden)),
-    // a bit of a board n or above
-    (2, 0, 0, 2, 1, 5, 40, Some(Forbidden)),
-    (31, 0, 0, 31, 0, 2147483650, 200, Some(Forbidden)),
-    (32, 0, 0, 32, 0, 2147483650, 103, None),
-    (32, 0, 0, 32, 0, 2147483650, 102, Some(FileRoom)),
-    // two causes
-    (33, 0, 0, 34, 0, 2, 200, Some(Boards)),
-    (1, 0, 0, 4097, 0, 0, 8192, Some(Boards)),
-    (1, 0, 0, 1, 0, 1, 40, Some(Boards)),
-    (33, 0, 0, 0, 0, 2, 2, Some(Boards)),
-    (2, 0, 0, 8195, 0, 2, 8192, Some(Shape)),
-    (2, 0, 0, 3, 0, 1, 40, Some(Shape)),
-    (2, 0, 0, 3, 0, 2, 2, Some(Shape)),
-    (2, 0, 0, 8194, 0, 1, 8192, Some(Picks)),
-    (2, 0, 0, 8194, 0, 2, 4104, Some(Picks)),
-    (2, 0, 0, 2, 0, 1, 9, Some(Forbidden)),
-    (2, 0, 0, 2, 1, 5, 0, Some(Forbidden)),
-];
-
 // Each row is a case.
-pub fn compare_edges<F: FnMut(&Edge) -> Outcome>(tally: &mut Tally, edges: &[Edge], mut run: F)
+pub fn compare_edges<S, F: FnMut(&Edge<S>) -> Outcome>(
+    tally: &mut Tally,
+    edges: &[Edge<S>],
+    mut run: F,
+)
     requires { F.IsAlwaysCallable run }
 {
     for edge in edges {
         tally.compare_row(run(edge), edge.refusal);
     }
 }
+
+// In each table a row stands in one line: the fields in their order.
+
+// Rows whose one setting is the number of boards.
+macro_rules! edges {
+    ($(($boards:expr, $lent:expr, $own:expr, $room:expr, $refusal:expr),)*) => {
+        [$(Edge { settings: $boards, lent: $lent, own: $own, room: $room, refusal: $refusal },)*]
+    };
+}
+
+// ---- a whole run
+
+// Its settings: there is no limit.
+#[derive(Clone, Copy)]
+pub struct Whole {
+    pub boards: usize,
+    pub measure: usize,
+}
+
+macro_rules! whole_edges {
+    ($(($boards:expr, $measure:expr, $lent:expr, $own:expr, $room:expr, $refusal:expr),)*) => {
+        [$(Edge {
+            settings: Whole { boards: $boards, measure: $measure },
+            lent: $lent,
+            own: $own,
+            room: $room,
+            refusal: $refusal,
+        },)*]
+    };
+}
+
+// The words lent are 2 and 1 by turns, both links of two boards, but for the row's own.
+pub static WHOLE_EDGES: &[Edge<Whole>] = &whole_edges![
+    // an area exact to the word, and one word less
+    (2, 3, 2, None, 10, None),
+    (2, 3, 2, None, 9, Some(Room)),
+    (2, 4, 2, None, 40, None),
+    (2, 4, 2, None, 39, Some(Room)),
+    (32, 3, 32, None, 160, Some(NoLength)),
+    (32, 3, 32, None, 159, Some(Room)),
+    (32, 4, 32, None, 10240, Some(NoLength)),
+    (32, 4, 32, None, 10239, Some(Room)),
+    (2, 3, 8192, None, 8200, None),
+    (2, 3, 8192, None, 8199, Some(Room)),
+    // boards, measures, picks
+    (1, 3, 1, None, 20000, Some(Boards)),
+    (33, 3, 33, None, 20000, Some(Boards)),
+    (2, 0, 2, None, 40, Some(Measure)),
+    (2, 5, 2, None, 40, Some(Measure)),
+    (2, 3, 8194, None, 8202, Some(Picks)),
+    (2, 3, 1, None, 40, Some(Shape)),
+    (2, 3, 3, None, 40, Some(Shape)),
+    (2, 3, 0, None, 40, Some(NoPick)),
+    // a board's own bit
+    (2, 1, 2, Some((0, 1)), 10, Some(Forbidden)),
+    (2, 2, 2, Some((0, 3)), 10, Some(Forbidden)),
+    (2, 3, 8192, Some((8191, 2)), 8200, Some(Forbidden)),
+    (2, 4, 2, Some((1, 3)), 40, Some(Forbidden)),
+    (32, 3, 32, Some((31, 2147483648)), 160, Some(Forbidden)),
+    // a bit of a board n or above
+    (2, 1, 2, Some((0, 4)), 10, Some(Forbidden)),
+    (2, 2, 2, Some((1, 5)), 10, Some(Forbidden)),
+    (2, 3, 2, Some((0, 6)), 10, Some(Forbidden)),
+    (2, 4, 2, Some((0, 2147483650)), 40, Some(Forbidden)),
+    (31, 3, 31, Some((0, 2147483650)), 155, Some(Forbidden)),
+    (32, 3, 32, Some((0, 2147483650)), 160, Some(NoLength)),
+    // two causes
+    (1, 0, 1, None, 40, Some(Boards)),
+    (33, 3, 34, None, 40, Some(Boards)),
+    (2, 5, 3, None, 40, Some(Measure)),
+    (2, 0, 0, None, 40, Some(Measure)),
+    (2, 3, 8195, None, 20000, Some(Shape)),
+    (2, 3, 3, Some((0, 1)), 0, Some(Shape)),
+    (2, 3, 0, None, 0, Some(NoPick)),
+    (2, 3, 8194, None, 0, Some(Picks)),
+    (2, 3, 8194, Some((0, 1)), 20000, Some(Picks)),
+    (2, 3, 2, Some((0, 1)), 9, Some(Room)),
+    (3, 3, 3, Some((0, 1)), 15, Some(Forbidden)),
+];
+
+// ---- the table of reach
+
+// The words lent are as for a whole run.
+pub static TABLE_EDGES: &[Edge<usize>] = &edges![
+    // an output exact to the word, and one word less
+    (2, 2, None, 2, None),
+    (2, 2, None, 1, Some(Room)),
+    (32, 32, None, 32, None),
+    (32, 32, None, 31, Some(Room)),
+    // boards, picks
+    (1, 1, None, 40, Some(Boards)),
+    (33, 33, None, 40, Some(Boards)),
+    (2, 8192, None, 2, None),
+    (2, 8194, None, 2, Some(Picks)),
+    (2, 1, None, 2, Some(Shape)),
+    (2, 3, None, 2, Some(Shape)),
+    (2, 0, None, 2, Some(NoPick)),
+    // a board's own bit
+    (2, 2, Some((0, 3)), 2, Some(Forbidden)),
+    (2, 8192, Some((8191, 2)), 2, Some(Forbidden)),
+    (32, 32, Some((31, 2147483648)), 32, Some(Forbidden)),
+    // a bit of a board n or above
+    (2, 2, Some((1, 5)), 2, Some(Forbidden)),
+    (31, 31, Some((0, 2147483650)), 31, Some(Forbidden)),
+    (32, 32, Some((0, 2147483650)), 32, None),
+    // two causes
+    (33, 34, None, 0, Some(Boards)),
+    (2, 8195, None, 2, Some(Shape)),
+    (2, 3, Some((0, 1)), 1, Some(Shape)),
+    (2, 0, None, 1, Some(NoPick)),
+    (2, 8194, None, 1, Some(Picks)),
+    (2, 8194, Some((0, 1)), 2, Some(Picks)),
+    (2, 2, Some((0, 1)), 1, Some(Room)),
+];
+
+// ---- opening
+
+macro_rules! open_edges {
+    ($(($boards:expr, $measure:expr, $limit:expr, $lent:expr, $own:expr, $room:expr, $refusal:expr),)*) => {
+        [$(Edge {
+            settings: Settings { boards: $boards, measure: $measure, limit: $limit },
+            lent: $lent,
+            own: $own,
+            room: $room,
+            refusal: $refusal,
+        },)*]
+    };
+}
+
+// The words lent are a list: 0, but for the row's own.
+pub static OPEN_EDGES: &[Edge<Settings>] = &open_edges![
+    // an area exact to the word, and one word less
+    (2, 3, 1, 2, None, 10, None),
+    (2, 3, 1, 2, None, 9, Some(Room)),
+    (32, 4, 1, 2, None, 10240, None),
+    (32, 4, 1, 2, None, 10239, Some(Room)),
+    (2, 3, 4096, 2, None, 8200, None),
+    (2, 3, 4096, 2, None, 8199, Some(Room)),
+    // boards, measures, limits
+    (1, 3, 1, 2, None, 20000, Some(Boards)),
+    (33, 3, 1, 2, None, 20000, Some(Boards)),
+    (2, 0, 1, 2, None, 40, Some(Measure)),
+    (2, 5, 1, 2, None, 40, Some(Measure)),
+    (2, 3, 0, 2, None, 20000, Some(Picks)),
+    (2, 3, 4097, 2, None, 20000, Some(Picks)),
+    // a list: it may hold no link, and has n words
+    (2, 2, 1, 2, None, 10, None),
+    (2, 2, 1, 2, Some((0, 2)), 10, None),
+    (32, 2, 1, 32, Some((0, 4294967294)), 160, None),
+    (2, 2, 1, 0, None, 10, Some(Shape)),
+    (2, 2, 1, 1, Some((0, 2)), 10, Some(Shape)),
+    (2, 2, 1, 3, Some((0, 2)), 10, Some(Shape)),
+    (3, 2, 1, 2, None, 100, Some(Shape)),
+    // a board's own bit, a bit of a board n or above
+    (2, 2, 1, 2, Some((0, 1)), 10, Some(Forbidden)),
+    (32, 2, 1, 32, Some((0, 1)), 160, Some(Forbidden)),
+    (2, 2, 1, 2, Some((0, 4)), 10, Some(Forbidden)),
+    (31, 2, 1, 31, Some((0, 2147483648)), 155, Some(Forbidden)),
+    // the other measures read no list
+    (2, 1, 1, 3, Some((0, 1)), 10, None),
+    (2, 3, 1, 0, None, 10, None),
+    (2, 4, 1, 2, Some((0, 7)), 40, None),
+    // two causes
+    (1, 0, 1, 2, None, 10, Some(Boards)),
+    (33, 2, 0, 2, None, 10, Some(Boards)),
+    (2, 5, 0, 2, None, 10, Some(Measure)),
+    (2, 0, 1, 2, None, 0, Some(Measure)),
+    (2, 2, 0, 3, None, 10, Some(Picks)),
+    (2, 2, 4097, 2, Some((0, 1)), 10, Some(Picks)),
+    (2, 3, 4097, 2, None, 0, Some(Picks)),
+    (2, 2, 1, 3, Some((0, 1)), 10, Some(Shape)),
+    (2, 2, 1, 3, None, 9, Some(Shape)),
+    (2, 2, 1, 2, Some((0, 1)), 9, Some(Forbidden)),
+];
+
+// ---- reading a file
+
+pub struct ReadEdge {
+    pub limit: usize,
+    // how many bytes are lent
+    pub lent: usize,
+    // the words of the output
+    pub room: usize,
+    pub refusal: Option<Refusal>,
+}
+
+macro_rules! read_edges {
+    ($(($limit:expr, $lent:expr, $room:expr, $refusal:expr),)*) => {
+        [$(ReadEdge { limit: $limit, lent: $lent, room: $room, refusal: $refusal },)*]
+    };
+}
+
+// Bytes are lent, of 42 02 50 50 45. What a file alone can show is in `compare`.
+pub static READ_EDGES: &[ReadEdge] = &read_edges![
+    // an output exact to the word, and one word less
+    (2, 5, 4, None),
+    (2, 5, 3, Some(Room)),
+    (4096, 5, 8192, None),
+    (4096, 5, 8191, Some(Room)),
+    // the limit
+    (0, 5, 4, Some(Picks)),
+    (4097, 5, 20000, Some(Picks)),
+    (1, 5, 4, Some(Full)),
+    // two causes
+    (0, 0, 4, Some(Picks)),
+    (4097, 5, 0, Some(Picks)),
+    (2, 1, 3, Some(Stopped)),
+    (1, 5, 1, Some(Room)),
+];
+
+// ---- saving a recording
+
+// The words lent are as for a whole run.
+pub static SAVE_EDGES: &[Edge<usize>] = &edges![
+    // an output exact to the byte, one byte less, and one that is longer
+    (2, 2, None, 10, None),
+    (2, 2, None, 9, Some(FileRoom)),
+    (2, 2, None, 11, None),
+    (2, 2, None, 0, Some(FileRoom)),
+    (32, 32, None, 100, None),
+    (32, 32, None, 99, Some(FileRoom)),
+    (2, 8192, None, 4105, None),
+    (2, 8192, None, 4104, Some(FileRoom)),
+    // no picks
+    (2, 0, None, 3, None),
+    (2, 0, None, 2, Some(FileRoom)),
+    (2, 0, None, 0, Some(FileRoom)),
+    (32, 0, None, 3, None),
+    (32, 0, None, 2, Some(FileRoom)),
+    // a link that stays shut, one that shuts in the last pick, and one that opens there
+    (2, 2, Some((0, 0)), 7, None),
+    (2, 2, Some((0, 0)), 6, Some(FileRoom)),
+    (2, 4, Some((2, 0)), 14, None),
+    (2, 4, Some((2, 0)), 13, Some(FileRoom)),
+    (2, 4, Some((1, 0)), 11, None),
+    (2, 4, Some((1, 0)), 10, Some(FileRoom)),
+    // boards, picks
+    (0, 0, None, 40, Some(Boards)),
+    (1, 1, Some((0, 0)), 40, Some(Boards)),
+    (33, 33, None, 200, Some(Boards)),
+    (usize::MAX, 0, None, 40, Some(Boards)),
+    (2, 8194, None, 4106, Some(Picks)),
+    (2, 1, None, 40, Some(Shape)),
+    (2, 3, None, 40, Some(Shape)),
+    (32, 31, None, 200, Some(Shape)),
+    (32, 33, None, 200, Some(Shape)),
+    // a board's own bit
+    (2, 2, Some((0, 3)), 40, Some(Forbidden)),
+    (2, 8192, Some((8191, 2)), 8192, Some(Forbidden)),
+    (32, 32, Some((31, 2147483648)), 200, Some(Forbidden)),
+    // a bit of a board n or above
+    (2, 2, Some((1, 5)), 40, Some(Forbidden)),
+    (31, 31, Some((0, 2147483650)), 200, Some(Forbidden)),
+    (32, 32, Some((0, 2147483650)), 103, None),
+    (32, 32, Some((0, 2147483650)), 102, Some(FileRoom)),
+    // two causes
+    (33, 34, None, 200, Some(Boards)),
+    (1, 4097, Some((0, 0)), 8192, Some(Boards)),
+    (1, 1, Some((0, 1)), 40, Some(Boards)),
+    (33, 0, None, 2, Some(Boards)),
+    (2, 8195, None, 8192, Some(Shape)),
+    (2, 3, Some((0, 1)), 40, Some(Shape)),
+    (2, 3, None, 2, Some(Shape)),
+    (2, 8194, Some((0, 1)), 8192, Some(Picks)),
+    (2, 8194, None, 4104, Some(Picks)),
+    (2, 2, Some((0, 1)), 9, Some(Forbidden)),
+    (2, 2, Some((1, 5)), 0, Some(Forbidden)),
+];
 
 // ---- a pick
 
@@ -263,23 +321,21 @@ pub struct PickEdge {
     pub before: usize,
     pub lacking: usize,
     pub lent: usize,
-    // one of the words, by its index, and what it is
-    pub at: usize,
-    pub word: u32,
+    // one of them that is another, by its index, and what it is
+    pub own: Option<(usize, u32)>,
     // the refusal under measure 2, and that of the others
     pub refusal_listed: Option<Refusal>,
     pub refusal: Option<Refusal>,
 }
 
 macro_rules! pick_edges {
-    ($(($limit:expr, $before:expr, $lacking:expr, $lent:expr, $at:expr, $word:expr, $refusal_listed:expr, $refusal:expr),)*) => {
+    ($(($limit:expr, $before:expr, $lacking:expr, $lent:expr, $own:expr, $refusal_listed:expr, $refusal:expr),)*) => {
         [$(PickEdge {
             limit: $limit,
             before: $before,
             lacking: $lacking,
             lent: $lent,
-            at: $at,
-            word: $word,
+            own: $own,
             refusal_listed: $refusal_listed,
             refusal: $refusal,
         },)*]
@@ -288,43 +344,43 @@ macro_rules! pick_edges {
 
 pub static PICK_EDGES: &[PickEdge] = &pick_edges![
     // taken
-    (2, 0, 0, 3, 0, 2, None, None),
-    (2, 1, 0, 3, 0, 2, None, None),
-    (2, 1, 0, 3, 0, 0, None, None),
+    (2, 0, 0, 3, None, None, None),
+    (2, 1, 0, 3, None, None, None),
+    (2, 1, 0, 3, Some((0, 0)), None, None),
     // a link outside the list
-    (2, 0, 0, 3, 1, 5, Some(Unlisted), None),
-    (2, 1, 0, 3, 0, 6, Some(Unlisted), None),
-    (2, 1, 0, 3, 2, 3, Some(Unlisted), None),
+    (2, 0, 0, 3, Some((1, 5)), Some(Unlisted), None),
+    (2, 1, 0, 3, Some((0, 6)), Some(Unlisted), None),
+    (2, 1, 0, 3, Some((2, 3)), Some(Unlisted), None),
     // a board's own bit
-    (2, 0, 0, 3, 0, 1, Some(Forbidden), Some(Forbidden)),
-    (2, 1, 0, 3, 0, 3, Some(Forbidden), Some(Forbidden)),
-    (2, 1, 0, 3, 1, 6, Some(Forbidden), Some(Forbidden)),
-    (2, 1, 0, 3, 2, 5, Some(Forbidden), Some(Forbidden)),
+    (2, 0, 0, 3, Some((0, 1)), Some(Forbidden), Some(Forbidden)),
+    (2, 1, 0, 3, Some((0, 3)), Some(Forbidden), Some(Forbidden)),
+    (2, 1, 0, 3, Some((1, 6)), Some(Forbidden), Some(Forbidden)),
+    (2, 1, 0, 3, Some((2, 5)), Some(Forbidden), Some(Forbidden)),
     // a bit of a board n or above
-    (2, 1, 0, 3, 0, 8, Some(Forbidden), Some(Forbidden)),
-    (2, 1, 0, 3, 2, 9, Some(Forbidden), Some(Forbidden)),
-    (2, 1, 0, 3, 1, 2147483652, Some(Forbidden), Some(Forbidden)),
+    (2, 1, 0, 3, Some((0, 8)), Some(Forbidden), Some(Forbidden)),
+    (2, 1, 0, 3, Some((2, 9)), Some(Forbidden), Some(Forbidden)),
+    (2, 1, 0, 3, Some((1, 2147483652)), Some(Forbidden), Some(Forbidden)),
     // an area one word short
-    (2, 0, 1, 3, 0, 2, Some(Room), Some(Room)),
-    (2, 1, 1, 3, 0, 2, Some(Room), Some(Room)),
+    (2, 0, 1, 3, None, Some(Room), Some(Room)),
+    (2, 1, 1, 3, None, Some(Room), Some(Room)),
     // words not n
-    (2, 1, 0, 0, 0, 2, Some(Shape), Some(Shape)),
-    (2, 1, 0, 2, 0, 2, Some(Shape), Some(Shape)),
-    (2, 1, 0, 4, 0, 2, Some(Shape), Some(Shape)),
+    (2, 1, 0, 0, None, Some(Shape), Some(Shape)),
+    (2, 1, 0, 2, None, Some(Shape), Some(Shape)),
+    (2, 1, 0, 4, None, Some(Shape), Some(Shape)),
     // beyond the limit
-    (1, 1, 0, 3, 0, 2, Some(Full), Some(Full)),
-    (2, 2, 0, 3, 0, 2, Some(Full), Some(Full)),
+    (1, 1, 0, 3, None, Some(Full), Some(Full)),
+    (2, 2, 0, 3, None, Some(Full), Some(Full)),
     // two causes
-    (1, 1, 0, 2, 0, 2, Some(Full), Some(Full)),
-    (1, 1, 0, 3, 0, 3, Some(Full), Some(Full)),
-    (1, 1, 1, 3, 0, 2, Some(Full), Some(Full)),
-    (1, 1, 0, 3, 0, 6, Some(Full), Some(Full)),
-    (2, 1, 0, 4, 0, 3, Some(Shape), Some(Shape)),
-    (2, 1, 1, 2, 0, 2, Some(Shape), Some(Shape)),
-    (2, 1, 0, 2, 0, 6, Some(Shape), Some(Shape)),
-    (2, 1, 1, 3, 0, 3, Some(Forbidden), Some(Forbidden)),
-    (2, 1, 0, 3, 0, 7, Some(Forbidden), Some(Forbidden)),
-    (2, 1, 1, 3, 0, 6, Some(Room), Some(Room)),
+    (1, 1, 0, 2, None, Some(Full), Some(Full)),
+    (1, 1, 0, 3, Some((0, 3)), Some(Full), Some(Full)),
+    (1, 1, 1, 3, None, Some(Full), Some(Full)),
+    (1, 1, 0, 3, Some((0, 6)), Some(Full), Some(Full)),
+    (2, 1, 0, 4, Some((0, 3)), Some(Shape), Some(Shape)),
+    (2, 1, 1, 2, None, Some(Shape), Some(Shape)),
+    (2, 1, 0, 2, Some((0, 6)), Some(Shape), Some(Shape)),
+    (2, 1, 1, 3, Some((0, 3)), Some(Forbidden), Some(Forbidden)),
+    (2, 1, 0, 3, Some((0, 7)), Some(Forbidden), Some(Forbidden)),
+    (2, 1, 1, 3, Some((0, 6)), Some(Room), Some(Room)),
 ];
 
 // ---- an altered place

@@ -2,15 +2,15 @@
 #![tactic(auto)]
 
 use compare_cases::{LINKS, fill_by_turns};
-use compare_rows::{Edge, SAVE_EDGES, compare_edges};
+use compare_rows::{Edge, SAVE_EDGES, compare_edges, put_own};
 use compare_saves::{marked, saved_as};
 use compare_tallies::{Group, Outcome, Tally};
 use naive::Recording;
 use std::io::Stdout;
 
 // Writes the file of a row that is not refused, and answers its size; 0 and nothing for any other.
-fn put_wanted(edge: &Edge, words: &[u32], wanted: &mut [u8]) -> usize {
-    let boards = edge.boards;
+fn put_wanted(edge: &Edge<usize>, words: &[u32], wanted: &mut [u8]) -> usize {
+    let boards = edge.settings;
     let picks = words.len().checked_div(boards).unwrap_or(0);
     if edge.refusal.is_some() || 32 < boards || 4096 < picks {
         return 0;
@@ -24,18 +24,16 @@ fn put_wanted(edge: &Edge, words: &[u32], wanted: &mut [u8]) -> usize {
 }
 
 // What the call answers, the size left out where it is the wanted one.
-fn run(edge: &Edge, words: &mut [u32]) -> Outcome {
+fn run(edge: &Edge<usize>, words: &mut [u32]) -> Outcome {
     if words.len() < edge.lent {
         return Outcome::NotRun;
     }
     fill_by_turns(words, LINKS);
-    if let Some(word) = words.get_mut(edge.at) {
-        *word = edge.word;
-    }
+    put_own(words, edge.own);
     let lent = &words[..edge.lent];
     let mut wanted = marked();
     let size = put_wanted(edge, lent, &mut wanted);
-    let outcome = saved_as(edge.boards, lent, edge.room, &mut marked(), &wanted);
+    let outcome = saved_as(edge.settings, lent, edge.room, &mut marked(), &wanted);
     if outcome == Outcome::from(Ok(size)) {
         Outcome::from(None)
     } else {

@@ -10,7 +10,7 @@ use std::{fmt, io};
 
 // ---- groups
 
-// Kinds and calls are data, and not closures that run them: with a closure for each of them the check of `compare` took 130 s in place of XX.
+// Kinds and calls are data, and not closures that run them: with a closure for each of them the check of `compare` took 130 s.
 
 // What of a recording is held against the second implementation, under a measure where there is one.
 #[derive(Clone, Copy)]
@@ -208,15 +208,15 @@ impl Outcome {
 
 // ---- lines
 
-// A number, or a dash where it is 0.
+// A number, or a dash where there is none. It is a dash for 0 too, which is a no, a call that is not refused, or the first row of a table.
 #[derive(Clone, Copy)]
-struct Cell(usize);
+struct Cell(Option<usize>);
 
 impl fmt::Display for Cell {
     fn fmt<W: fmt::Write>(&self, f: &mut fmt::Formatter<W>) -> fmt::Result {
         match self.0 {
-            0 => f.write_str("-"),
-            number => write!(f, "{number}"),
+            None | Some(0) => f.write_str("-"),
+            Some(number) => write!(f, "{number}"),
         }
     }
 }
@@ -225,8 +225,8 @@ impl fmt::Display for Case<'_> {
     fn fmt<W: fmt::Write>(&self, f: &mut fmt::Formatter<W>) -> fmt::Result {
         let name = self.name;
         let number = self.number;
-        let measure = Cell(self.measure.unwrap_or(0));
-        let part = Cell(self.part.unwrap_or(0));
+        let measure = Cell(self.measure);
+        let part = Cell(self.part);
         write!(f, "{name} {number} {measure} {part}")
     }
 }
@@ -236,7 +236,7 @@ impl fmt::Display for Outcome {
     fn fmt<W: fmt::Write>(&self, f: &mut fmt::Formatter<W>) -> fmt::Result {
         match *self {
             Outcome::Answered { value, counts } => {
-                let cell = Cell(value.unwrap_or(0));
+                let cell = Cell(value.ok());
                 let refusal = value.err().map_or(0, u32::from);
                 let compositions = counts.compositions.0;
                 let tests = counts.tests.0;
@@ -293,7 +293,7 @@ impl Tally {
     pub fn print(&self) -> io::Result<()> {
         let out = self.out;
         let group = self.group;
-        let measure = Cell(group.measure().unwrap_or(0));
+        let measure = Cell(group.measure());
         let cases = self.cases;
         let mismatches = self.mismatches;
         println!(out; "{group} {measure} {cases} {mismatches}")

@@ -2,7 +2,7 @@
 // place back as it was and leave every word of the area.
 #![tactic(auto)]
 
-use compare_rows::{PICK_EDGES, PLACE_EDGES, PickEdge};
+use compare_rows::{PICK_EDGES, PLACE_EDGES, PickEdge, put_own};
 use compare_tallies::{Case, Group, Outcome, Tally};
 use model::{Compositions, Refusal, Tests};
 use place::{Counts, Place};
@@ -60,9 +60,7 @@ fn pick_edge(edge: &PickEdge, measure: usize, area: &mut [u32], kept: &mut [u32]
     }
     let fresh = compare_walks::opened(3, measure, edge.limit, &words[..3], &mut area[..room]);
     let p = all_taken(fresh, &mut area[..room], &words[..3], edge.before);
-    if let Some(word) = words.get_mut(edge.at) {
-        *word = edge.word;
-    }
+    put_own(&mut words, edge.own);
     run_pick(
         p,
         &mut area[..room - edge.lacking],
