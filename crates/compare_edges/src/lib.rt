@@ -3,7 +3,7 @@
 
 use compare_cases::{LINKS, MARK, fill_by_turns, is_marked};
 use compare_rows::{
-    Edge, OPEN_EDGES, READ_EDGES, ReadEdge, TABLE_EDGES, WHOLE_EDGES, Whole, compare_edges, put_own,
+    Edge, OPEN_EDGES, READ_EDGES, ReadEdge, TABLE_EDGES, WHOLE_EDGES, Whole, put_own,
 };
 use compare_tallies::{Call, Case, Group, Outcome, Tally};
 use model::Refusal;
@@ -11,19 +11,6 @@ use place::{Place, Settings};
 use std::io::Stdout;
 
 // ---- rows
-
-// What a call answers that is lent the first words of the area, as many as there is room.
-fn run_in<F: FnOnce(&mut [u32]) -> Outcome>(room: usize, area: &mut [u32], call: F) -> Outcome
-    requires { F.IsAlwaysCallable call }
-{
-    if area.len() < room {
-        return Outcome::NotRun;
-    }
-    let room = &mut area[..room];
-    room.fill(MARK);
-    let outcome = call(room);
-    outcome.left(is_marked(room))
-}
 
 // What a call answers of a row: it is handed the settings, the words lent, which are others by turns but for the row's own, and an area.
 fn run<S: Copy, F: Fn(S, &[u32], &mut [u32]) -> Outcome>(
@@ -35,13 +22,15 @@ fn run<S: Copy, F: Fn(S, &[u32], &mut [u32]) -> Outcome>(
 ) -> Outcome
     requires { F.IsAlwaysCallable call }
 {
-    if words.len() < edge.lent {
+    if words.len() < edge.lent || area.len() < edge.room {
         return Outcome::NotRun;
     }
     fill_by_turns(words, others);
     put_own(words, edge.own);
-    let lent = &words[..edge.lent];
-    run_in(edge.room, area, |room| call(edge.settings, lent, room))
+    let room = &mut area[..edge.room];
+    room.fill(MARK);
+    let outcome = call(edge.settings, &words[..edge.lent], room);
+    outcome.left(is_marked(room))
 }
 
 // ---- the calls: their counts, and yes or no, left out
@@ -72,14 +61,13 @@ fn opening(settings: Settings, list: &[u32], area: &mut [u32]) -> Outcome {
 // Of a file with two boards and two picks.
 fn reading(edge: &ReadEdge, area: &mut [u32]) -> Outcome {
     let file = [0x42u8, 0x02, 0x50, 0x50, 0x45];
-    match file.get(..edge.lent) {
-        Some(bytes) => run_in(
-            edge.room,
-            area,
-            |out| recording::read(bytes, edge.limit, out).err().into(),
-        ),
-        None => Outcome::NotRun,
+    if file.len() < edge.lent || area.len() < edge.room {
+        return Outcome::NotRun;
     }
+    let out = &mut area[..edge.room];
+    out.fill(MARK);
+    let outcome = Outcome::from(recording::read(&file[..edge.lent], edge.limit, out).err());
+    outcome.left(is_marked(out))
 }
 
 // 17 comes last: it is the refusal only where nothing else refuses. Without a length, 9, a decision is no.
@@ -106,25 +94,28 @@ fn compare_decisions(tally: &mut Tally, words: &mut [u32], area: &mut [u32]) {
 
 // ---- all tables
 
+fn compare_edges<S: Copy, F: Fn(S, &[u32], &mut [u32]) -> Outcome>(
+    tally: &mut Tally,
+    edges: &[Edge<S>],
+    others: [u32; 2],
+    words: &mut [u32],
+    area: &mut [u32],
+    call: F,
+)
+    requires { F.IsAlwaysCallable call }
+{
+    for edge in edges {
+        tally.compare_row(run(edge, others, words, area, &call), edge.refusal);
+    }
+}
+
 pub fn tally(out: Stdout, call: Call, words: &mut [u32], area: &mut [u32]) -> Tally {
     let mut tally = Tally::new(out, Group::Edges(call));
     match call {
-        Call::Whole => compare_edges(
-            &mut tally,
-            WHOLE_EDGES,
-            |edge| run(edge, LINKS, words, area, whole),
-        ),
+        Call::Whole => compare_edges(&mut tally, WHOLE_EDGES, LINKS, words, area, whole),
         Call::Decide => compare_decisions(&mut tally, words, area),
-        Call::Table => compare_edges(
-            &mut tally,
-            TABLE_EDGES,
-            |edge| run(edge, LINKS, words, area, table),
-        ),
-        Call::Open => compare_edges(
-            &mut tally,
-            OPEN_EDGES,
-            |edge| run(edge, [0, 0], words, area, opening),
-        ),
+        Call::Table => compare_edges(&mut tally, TABLE_EDGES, LINKS, words, area, table),
+        Call::Open => compare_edges(&mut tally, OPEN_EDGES, [0, 0], words, area, opening),
         Call::Read => for edge in READ_EDGES {
             tally.compare_row(reading(edge, area), edge.refusal);
         },
