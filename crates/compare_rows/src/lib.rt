@@ -2,7 +2,6 @@
 // in 01's order. A row more is a line more.
 #![tactic(auto)]
 
-use compare_tallies::{Outcome, Tally};
 use model::Refusal::{
     BadPlace, Boards, FileRoom, Forbidden, Full, Measure, NoLength, NoPick, Picks, Room, Shape,
     Stopped, Unlisted,
@@ -28,19 +27,6 @@ pub fn put_own(words: &mut [u32], own: Option<(usize, u32)>) {
         if let Some(lent) = words.get_mut(at) {
             *lent = word;
         }
-    }
-}
-
-// Each row is a case.
-pub fn compare_edges<S, F: FnMut(&Edge<S>) -> Outcome>(
-    tally: &mut Tally,
-    edges: &[Edge<S>],
-    mut run: F,
-)
-    requires { F.IsAlwaysCallable run }
-{
-    for edge in edges {
-        tally.compare_row(run(edge), edge.refusal);
     }
 }
 

@@ -2,7 +2,7 @@
 #![tactic(auto)]
 
 use compare_cases::{LINKS, fill_by_turns};
-use compare_rows::{Edge, SAVE_EDGES, compare_edges, put_own};
+use compare_rows::{Edge, SAVE_EDGES, put_own};
 use compare_saves::{marked, saved_as};
 use compare_tallies::{Group, Outcome, Tally};
 use naive::Recording;
@@ -43,6 +43,8 @@ fn run(edge: &Edge<usize>, words: &mut [u32]) -> Outcome {
 
 pub fn tally(out: Stdout, words: &mut [u32]) -> Tally {
     let mut tally = Tally::new(out, Group::SaveEdges);
-    compare_edges(&mut tally, SAVE_EDGES, |edge| run(edge, words));
+    for edge in SAVE_EDGES {
+        tally.compare_row(run(edge, words), edge.refusal);
+    }
     tally
 }
