@@ -224,7 +224,7 @@ pub fn whole(n: usize, measure: usize, words: &[u32], area: &mut [u32]) -> Answe
         × (area.new ≡ whole_leaves n measure words.now area.old) }
 {
     match verdicts::whole_verdict(n, measure, words, area) {
-        Ok(()) => whole_run(&LentPicks::new(words, n), measure, area),
+        Ok(lent) => whole_run(&lent, measure, area),
         Err(cause) => Answer::refused(cause),
     }
 }

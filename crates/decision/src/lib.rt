@@ -2,7 +2,8 @@
 // nothing.
 #![tactic(auto)]
 
-ghost use Rattle.std.specs.Prelude.{◌≡◌, ◌≢◌, ◌≤◌, length};
+ghost use Rattle.std.specs.Prelude.{◌≡◌, ◌≢◌, ◌≤◌, length, IfOk};
+ghost use Rattle.links.specs.Lent.{HasPicks};
 ghost use Rattle.area.specs.Parts.{zeroed};
 ghost use Rattle.verdicts.specs.Verdicts.{needed, verdict_says};
 ghost use Rattle.verdicts.specs.Fit.{Runs};
@@ -22,19 +23,21 @@ pub struct Decision {
     pub counts: Counts,
 }
 
-// The causes, in their order: those of a whole run, 1, 2, 10, 8, 3, 4, 5, then 17.
+// The causes, in their order: those of a whole run, 1, 2, 10, 8, 3, 4, 5, then 17. Where there is none, the picks.
 #[tactic(auto, using(verdicts::proofs::Verdicts::whole_sound), unfolding(model::specs::Causes::first_of, crate::specs::Decisions::decision_verdict, verdicts::specs::Verdicts::whole_verdict))]
-fn decision_verdict(
+fn decision_verdict<'a>(
     n: usize,
     measure: usize,
-    words: &[u32],
+    words: &'a [u32],
     k: usize,
     area: &[u32],
-) -> Result<(), Refusal>
-    ensures { verdict_says result ≡ decision_verdict n measure words.now k area.now }
+) -> Result<LentPicks<'a>, Refusal>
+    ensures verdict { verdict_says result ≡ decision_verdict n measure words.now k area.now }
+    ensures lent { IfOk result (λ l. HasPicks l n words.now) }
 {
-    verdicts::whole_verdict(n, measure, words, area)?;
-    verdicts::window_verdict(k, words.len() / n)
+    let lent = verdicts::whole_verdict(n, measure, words, area)?;
+    verdicts::window_verdict(k, lent.m)?;
+    Ok(lent)
 }
 
 // ---- the walk held at k
@@ -91,6 +94,6 @@ pub fn decide(
     ensures { (decision_says result ≡ decide_says n measure words.now k area.old)
         × (area.new ≡ decide_leaves n measure words.now k area.old) }
 {
-    decision_verdict(n, measure, words, k, area)?;
-    Ok(decide_run(&LentPicks::new(words, n), measure, k, area))
+    let lent = decision_verdict(n, measure, words, k, area)?;
+    Ok(decide_run(&lent, measure, k, area))
 }

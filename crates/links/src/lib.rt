@@ -1,7 +1,7 @@
 // Tables of links between n boards, 2 to 32: n words, bit v of word u for the pair u, v. Words are taken as they are found.
 #![tactic(auto)]
 
-ghost use Rattle.std.specs.Prelude.{◌≡◌, ◌≢◌, false, ℕ, ◌-◌, ◌*◌, ◌/◌, ◌^◌, ◌≤◌, ◌<◌, T, length};
+ghost use Rattle.std.specs.Prelude.{◌≡◌, ◌≢◌, false, ℕ, ◌-◌, ◌*◌, ◌^◌, ◌≤◌, ◌<◌, T, length};
 ghost use Rattle.model.specs.Recording.{bit};
 ghost use Rattle.lists.specs.Tab.{tab};
 ghost use Rattle.links.specs.Tables.{without, intersection, union, same, differing};
@@ -73,10 +73,12 @@ pub struct LentPicks<'a> {
 }
 
 impl<'a> LentPicks<'a> {
+    ghost use Rattle.links.specs.Lent.{HasPicks};
+
     // As many as there are words for.
     pub fn new(words: &'a [u32], n: usize) -> Self
         requires { 1 ≤ n }
-        ensures { (result.words.now ≡ words.now) × (result.n ≡ n) × (result.m ≡ length words.now / n) }
+        ensures { HasPicks result n words.now }
     {
         LentPicks {
             words,

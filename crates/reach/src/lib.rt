@@ -1,9 +1,10 @@
 // The call for the table of reach: bit b of word a is set when a journey leads from a to b in the whole recording.
 #![tactic(auto)]
 
-ghost use Rattle.std.specs.Prelude.{◌≡◌, ◌≤◌, length};
+ghost use Rattle.std.specs.Prelude.{◌≡◌, ◌≤◌, length, IfOk};
 ghost use Rattle.links.specs.Tables.{compose, within};
 ghost use Rattle.links.specs.Composed.{reach};
+ghost use Rattle.links.specs.Lent.{HasPicks};
 ghost use Rattle.checks.specs.Lent.{lent_picks};
 ghost use Rattle.measures.specs.Kit.{hops01};
 ghost use Rattle.verdicts.specs.Verdicts.{verdict_says};
@@ -49,16 +50,18 @@ fn out_verdict(lent: &LentPicks<'_>, out: &[u32]) -> Result<(), Refusal>
     Ok(())
 }
 
-// The causes, in their order: 1, 10, 8, 3, 4, 5.
+// The causes, in their order: 1, 10, 8, 3, 4, 5. Where there is none, the picks.
 #[tactic(auto, unfolding(model::specs::Causes::first_of, model::specs::Causes::between, crate::specs::Tables::table_verdict))]
-fn table_verdict(n: usize, words: &[u32], out: &[u32]) -> Result<(), Refusal>
-    ensures { verdict_says result ≡ table_verdict n words.now out.now }
+fn table_verdict<'a>(n: usize, words: &'a [u32], out: &[u32]) -> Result<LentPicks<'a>, Refusal>
+    ensures verdict { verdict_says result ≡ table_verdict n words.now out.now }
+    ensures lent { IfOk result (λ l. HasPicks l n words.now) }
 {
     if !model::is_between(2, n, 32) {
         return Err(Refusal::Boards);
     }
-    verdicts::lent_verdict(words, n)?;
-    out_verdict(&LentPicks::new(words, n), out)
+    let lent = verdicts::lent_verdict(words, n)?;
+    out_verdict(&lent, out)?;
+    Ok(lent)
 }
 
 // The table of a recording lent whole, n words a pick, into the first n words of out.
@@ -66,7 +69,7 @@ fn table_verdict(n: usize, words: &[u32], out: &[u32]) -> Result<(), Refusal>
 pub fn table(n: usize, words: &[u32], out: &mut [u32]) -> Result<(), Refusal>
     ensures { (verdict_says result ≡ table_verdict n words.now out.old) × (out.new ≡ table_leaves n words.now out.old) }
 {
-    table_verdict(n, words, out)?;
-    write_table(&mut out[..n], &LentPicks::new(words, n));
+    let lent = table_verdict(n, words, out)?;
+    write_table(&mut out[..n], &lent);
     Ok(())
 }

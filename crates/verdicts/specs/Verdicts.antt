@@ -1,5 +1,5 @@
 -- What the checks of the calls find, for every input: the causes of document 01 in its order. A cause is its number, 0 where there is none.
-use Rattle.std.specs.Prelude.{ℕ, ◌+◌, ◌*◌, ◌/◌, ◌%◌, ◌&&◌, not, List, [], ◌∷◌, ◌++◌, eqb, leb, ltb, length, Result, Ok, Err, ⊤}
+use Rattle.std.specs.Prelude.{ℕ, ◌+◌, ◌*◌, ◌/◌, ◌%◌, ◌&&◌, not, List, [], ◌∷◌, ◌++◌, eqb, leb, ltb, length, Result, Ok, Err}
 use Rattle.model.specs.Causes.{between, Causes, first_of}
 use Rattle.model.specs.declared.Refusal.{Refusal}
 use Rattle.model.specs.Refusals.{number}
@@ -11,7 +11,7 @@ use Rattle.place.specs.declared.Place.{Place}
 use Rattle.place.specs.Places.{sound_place}
 
 -- the number of the first cause, 0 for none
-abbrev pub verdict_says : Result ⊤ Refusal → ℕ
+abbrev pub verdict_says : {A : Type 0} → Result A Refusal → ℕ
 verdict_says (Ok x) = 0
 verdict_says (Err c) = number c
 

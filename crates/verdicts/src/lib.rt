@@ -1,7 +1,8 @@
 // What the checks of opening, pick and whole run find, cause by cause in document 01's order. The three verdicts require nothing.
 #![tactic(auto)]
 
-ghost use Rattle.std.specs.Prelude.{◌≡◌, [], ◌∷◌, ◌+◌, ◌≤◌, length, ltb};
+ghost use Rattle.std.specs.Prelude.{◌≡◌, [], ◌∷◌, ◌+◌, ◌≤◌, length, ltb, IfOk};
+ghost use Rattle.links.specs.Lent.{HasPicks};
 ghost use Rattle.checks.specs.Checks.{listed};
 ghost use Rattle.measures.specs.Kit.{kit};
 ghost use Rattle.area.specs.Parts.{table_at};
@@ -30,23 +31,24 @@ fn is_short(area: &[u32], measure: usize, n: usize, limit: usize) -> bool
     area.len() < needed_words(measure, n, limit)
 }
 
-// The causes that every recording lent whole is asked first, in their order: 10, 8, 3.
+// The causes that every recording lent whole is asked first, in their order: 10, 8, 3. Where there is none, its picks.
 #[tactic(auto, unfolding(model::specs::Causes::first_of))]
-pub fn lent_verdict(words: &[u32], n: usize) -> Result<(), Refusal>
+pub fn lent_verdict(words: &[u32], n: usize) -> Result<LentPicks<'_>, Refusal>
     requires { 1 ≤ n }
-    ensures { verdict_says result ≡ first_of (lent_causes n words.now) }
+    ensures verdict { verdict_says result ≡ first_of (lent_causes n words.now) }
+    ensures lent { IfOk result (λ l. HasPicks l n words.now) }
 {
     if words.len() % n != 0 {
         return Err(Refusal::Shape);
     }
-    let m = words.len() / n;
-    if m == 0 {
+    let lent = LentPicks::new(words, n);
+    if lent.m == 0 {
         return Err(Refusal::NoPick);
     }
-    if 4096 < m {
+    if 4096 < lent.m {
         return Err(Refusal::Picks);
     }
-    Ok(())
+    Ok(lent)
 }
 
 // ---- opening
@@ -155,10 +157,16 @@ fn run_verdict(lent: &LentPicks<'_>, measure: usize, area: &[u32]) -> Result<(),
     Ok(())
 }
 
-// The causes of a whole run, in their order: 1, 2, 10, 8, 3, 4, 5.
+// The causes of a whole run, in their order: 1, 2, 10, 8, 3, 4, 5. Where there is none, its picks.
 #[tactic(auto, unfolding(model::specs::Causes::first_of, model::specs::Causes::between, crate::specs::Verdicts::whole_verdict))]
-pub fn whole_verdict(n: usize, measure: usize, words: &[u32], area: &[u32]) -> Result<(), Refusal>
-    ensures { verdict_says result ≡ whole_verdict n measure words.now area.now }
+pub fn whole_verdict<'a>(
+    n: usize,
+    measure: usize,
+    words: &'a [u32],
+    area: &[u32],
+) -> Result<LentPicks<'a>, Refusal>
+    ensures verdict { verdict_says result ≡ whole_verdict n measure words.now area.now }
+    ensures lent { IfOk result (λ l. HasPicks l n words.now) }
 {
     if !model::is_between(2, n, 32) {
         return Err(Refusal::Boards);
@@ -166,8 +174,9 @@ pub fn whole_verdict(n: usize, measure: usize, words: &[u32], area: &[u32]) -> R
     if !model::is_between(1, measure, 4) {
         return Err(Refusal::Measure);
     }
-    lent_verdict(words, n)?;
-    run_verdict(&LentPicks::new(words, n), measure, area)
+    let lent = lent_verdict(words, n)?;
+    run_verdict(&lent, measure, area)?;
+    Ok(lent)
 }
 
 // ---- a window length

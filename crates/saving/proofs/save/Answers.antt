@@ -6,4 +6,4 @@ use Rattle.saving.proofs.save.Goals as goal
 pub invariant_of-file-clause-clean : goal.invariant_of-file-clause-clean
 invariant_of-file-clause-clean c =
     let l = c.new-lent.ensures in
-    rw (l.0, l.1) (clean_lent c.args.n c.args.words.now (rw (l.0, l.1, l.2) at c.if-not-are_clean.ensures))
+    rw (l.words, l.boards) (clean_lent c.args.n c.args.words.now (rw (l.words, l.boards, l.count) at c.if-not-are_clean.ensures))
