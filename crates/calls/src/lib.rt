@@ -189,16 +189,14 @@ pub fn whole_start(lent: &LentPicks<'_>, measure: usize, area: &mut [u32]) -> Pl
 // All picks, one after the other, by the unchecked step: a count that starts at m - 1 would be refused as 16. The area is not kept, and once measure 1
 // has ended the picks that are left only count.
 fn whole_steps(p: Place, area: &mut [u32], lent: &LentPicks<'_>) -> Place
-    requires { Starts p lent.now.m lent.now.words.now area.old × (1 ≤ p.settings.boards) }
+    requires { Starts p lent.now.m lent.now.words.now area.old × (1 ≤ p.settings.boards) × (lent.now.n ≡ p.settings.boards) }
     ensures { Does (bare_steps (kit_of p.settings) p.settings.boards lent.now.words.now lent.now.m) p area.old result area.new
         × Ends p lent.now.m area.old result area.new }
 {
-    let n = p.settings.boards;
-    let m = lent.m;
     let mut q = p;
-    for pick in lent.words[..m * n].chunks_exact(n) {
+    for pick in lent.picks() {
         if steps::is_finished(q) {
-            return q.picks_taken(m - q.window.taken.0);
+            return q.picks_taken(lent.m - q.window.taken.0);
         }
         q = steps::step(q, area, pick, Mode::Unkept);
     }

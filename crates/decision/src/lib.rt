@@ -44,12 +44,11 @@ fn decision_verdict<'a>(
 
 // The picks up to the first failure, or all. The area is not kept.
 fn hold_picks(p: Place, area: &mut [u32], lent: &LentPicks<'_>, k: usize) -> Place
-    requires { Starts p lent.now.m lent.now.words.now area.old × (1 ≤ k) × (1 ≤ p.settings.boards) }
+    requires { Starts p lent.now.m lent.now.words.now area.old × (1 ≤ k) × (1 ≤ p.settings.boards) × (lent.now.n ≡ p.settings.boards) }
     ensures { Leaves p k lent.now.m lent.now.words.now area.old result area.new }
 {
-    let n = p.settings.boards;
     let mut q = p;
-    for pick in lent.words[..lent.m * n].chunks_exact(n) {
+    for pick in lent.picks() {
         if q.marks.failed {
             return q;
         }

@@ -1,13 +1,14 @@
 // Tables of links between n boards, 2 to 32: n words, bit v of word u for the pair u, v. Words are taken as they are found.
 #![tactic(auto)]
 
-ghost use Rattle.std.specs.Prelude.{◌≡◌, ◌≢◌, false, ℕ, ◌-◌, ◌*◌, ◌^◌, ◌≤◌, ◌<◌, T, length};
+ghost use Rattle.std.specs.Prelude.{◌≡◌, ◌≢◌, false, ℕ, ◌-◌, ◌*◌, ◌^◌, ◌≤◌, ◌<◌, T, length, take};
 ghost use Rattle.model.specs.Recording.{bit};
 ghost use Rattle.lists.specs.Tab.{tab};
 ghost use Rattle.links.specs.Tables.{without, intersection, union, same, differing};
 ghost use Rattle.links.specs.Picks.{united_picks};
 
 use model::Board;
+use std::slice::ChunksExact;
 
 // Whether bit b of x is set.
 #[tactic(auto, unfolding(model::specs::Recording::bit))]
@@ -85,6 +86,15 @@ impl<'a> LentPicks<'a> {
             n,
             m: words.len() / n,
         }
+    }
+
+    // The picks, one after the other.
+    pub fn picks(&self) -> ChunksExact<'a, u32>
+        requires { 1 ≤ self.now.n }
+        ensures size { result.size ≡ self.now.n }
+        ensures rest { result.rest.now ≡ take (self.now.m * self.now.n) self.now.words.now }
+    {
+        self.words[..self.m * self.n].chunks_exact(self.n)
     }
 
     // The links of each of the picks after the first `from` join those of out; how many unions were made is counted.

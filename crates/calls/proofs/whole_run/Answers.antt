@@ -1,6 +1,6 @@
 -- `calls::whole_run` meets its contract: the start, the steps, the words set to zero, the report.
 -- Assumes nothing.
-use mathlib.Core.Path.{ap, ◌∙◌}
+use mathlib.Core.Path.{sym, ap, ◌∙◌}
 use native.Mathlib.Omega.{arith}
 use Rattle.place.specs.declared.Place.{Place}
 use Rattle.place.specs.Places.{fresh, charged}
@@ -17,6 +17,7 @@ whole_steps-q-requires c =
       whole_starts _ _ _ _ _ _ c.requires (list-cost c.args.measure c.args.lent.now.m c.requires.cap) c.whole_start-p.ensures.place
           c.whole_start-p.auto.area,
       omega arith,
+      sym e,
     )
 
 pub returns : goal.returns

@@ -9,8 +9,8 @@ use Rattle.calls.proofs.whole_steps.Goals as goal
 
 pub loop-pick-init : goal.loop-pick-init
 loop-pick-init c = rw c.into_iter-pick-iterator.ensures.into_iter_gives (
-  c.chunks_exact-pick-items.ensures.size,
-  (0, rw c.chunks_exact-pick-items.ensures.rest (bared_start c.requires.0)),
+  c.picks-pick-items.ensures.size ∙ c.requires.2,
+  (0, rw (c.picks-pick-items.ensures.rest, c.requires.2) (bared_start c.requires.0)),
 )
 
 pub returns-then-is_finished : goal.returns-then-is_finished

@@ -1,6 +1,6 @@
 -- `decision::decide_run` meets its contract: the start, the picks, the words set to zero, the answer.
 -- Assumes nothing.
-use mathlib.Core.Path.{ap, ◌∙◌}
+use mathlib.Core.Path.{sym, ap, ◌∙◌}
 use native.Mathlib.Omega.{arith}
 use Rattle.place.specs.declared.Place.{Place}
 use Rattle.place.specs.Places.{fresh, charged}
@@ -19,6 +19,7 @@ hold_picks-q-requires c =
           c.whole_start-p.auto.area,
       c.requires.1,
       omega arith,
+      sym e,
     )
 
 pub returns : goal.returns

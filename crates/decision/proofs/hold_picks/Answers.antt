@@ -7,8 +7,8 @@ use Rattle.decision.proofs.hold_picks.Goals as goal
 
 pub loop-pick-init : goal.loop-pick-init
 loop-pick-init c = rw c.into_iter-pick-iterator.ensures.into_iter_gives (
-  c.chunks_exact-pick-items.ensures.size,
-  (0, rw c.chunks_exact-pick-items.ensures.rest (holding_start c.args.k c.requires.0)),
+  c.picks-pick-items.ensures.size ∙ c.requires.3,
+  (0, rw (c.picks-pick-items.ensures.rest, c.requires.3) (holding_start c.args.k c.requires.0)),
 )
 
 pub returns-then-q : goal.returns-then-q
