@@ -24,7 +24,7 @@ use Rattle.area.proofs.Laws.{put_same, put_beyond, zeroed-part}
 use Rattle.place.specs.declared.Settings.{Settings}
 use Rattle.place.specs.declared.Place.{Place}
 use Rattle.place.proofs.Laws.{and_left, and_right}
-use Rattle.place.specs.Places.{fresh, charged, picks_taken, per_pick}
+use Rattle.place.specs.Places.{settings_of, fresh, charged, picks_taken, per_pick}
 use Rattle.verdicts.specs.Verdicts.{needed}
 use Rattle.verdicts.specs.Fit.{Runs}
 use Rattle.steps.specs.Walk.{State, state, kit_of, ended, stepped}
@@ -366,6 +366,12 @@ list-cost measure m h = go (eqb measure 2)
     go false = omega arith
 
 -- ---- from the start to the end
+
+-- a whole run starts with its own settings
+pub start_settings : (n measure m : ℕ) (w a : List ℕ) {p : Place} → p ≡ (whole_start n measure m w a).place
+    → p.settings ≡ settings_of measure n m
+unfolding whole_start charged fresh
+start_settings n measure m w a e = ap (λ (x : Place). x.settings) e
 
 -- the place and the area that a whole run starts from
 pub whole_starts : (n measure m c : ℕ) (w a : List ℕ) {p : Place} {b : List ℕ} → Runs n measure m w a → c ≤ 4096

@@ -16,7 +16,7 @@ ghost use Rattle.calls.specs.Calls.{unions, bare_steps, whole_report, whole_says
 
 use links::LentPicks;
 use model::Refusal;
-use place::{Counts, Place};
+use place::{Counts, Place, Settings};
 use steps::Mode;
 
 // What stands against a place: the cause, and the place that is handed back. That is zeros and noes for an opening, and the place as it was for a pick.
@@ -55,24 +55,31 @@ impl Answer {
 // ---- opening
 
 // The needed words zero.
-pub fn zero_needed(n: usize, measure: usize, limit: usize, area: &mut [u32])
-    requires { (n ≤ 32) × (limit ≤ 4096) × (needed measure n limit ≤ length area.old) }
-    ensures { area.new ≡ zeroed (needed measure n limit) area.old }
+pub fn zero_needed(settings: Settings, area: &mut [u32])
+    requires { (settings.boards ≤ 32) × (settings.limit ≤ 4096)
+        × (needed settings.measure settings.boards settings.limit ≤ length area.old) }
+    ensures { area.new ≡ zeroed (needed settings.measure settings.boards settings.limit) area.old }
 {
-    let k = verdicts::needed_words(measure, n, limit);
+    let k = verdicts::needed_words(settings);
     area::zero_first(area, k);
 }
 
 // The needed words zero, and the footprint of measure 2 in part limit + 3.
-fn open_area(n: usize, measure: usize, limit: usize, footprint: &[u32], area: &mut [u32])
-    requires { Clears n measure limit footprint.now area.old }
-    ensures { area.new ≡ opened_area n measure limit footprint.now area.old }
+fn open_area(settings: Settings, footprint: &[u32], area: &mut [u32])
+    requires { Clears settings.boards settings.measure settings.limit footprint.now area.old }
+    ensures { area.new ≡ opened_area settings.boards settings.measure settings.limit footprint.now area.old }
 {
-    zero_needed(n, measure, limit, area);
-    if measure != 2 {
+    zero_needed(settings, area);
+    if settings.measure != 2 {
         return;
     }
-    area::put_table(area, footprint, measure, n, limit + 3);
+    area::put_table(
+        area,
+        footprint,
+        settings.measure,
+        settings.boards,
+        settings.limit + 3,
+    );
 }
 
 // Opens a walk over n boards.
@@ -88,12 +95,14 @@ pub fn open(
         × (area.new ≡ open_leaves n measure limit footprint.now area.old) }
 {
     let place = Place::NOWHERE;
-    verdicts::open_verdict(n, measure, limit, footprint, area).map_err(|cause| Refused {
-        place,
-        cause,
-    })?;
-    open_area(n, measure, limit, footprint, area);
-    Ok(Place::open(measure, n, limit))
+    let settings = Settings {
+        boards: n,
+        measure,
+        limit,
+    };
+    verdicts::open_verdict(settings, footprint, area).map_err(|cause| Refused { place, cause })?;
+    open_area(settings, footprint, area);
+    Ok(Place::open(settings))
 }
 
 // ---- pick
@@ -176,7 +185,11 @@ pub fn whole_start(lent: &LentPicks<'_>, measure: usize, area: &mut [u32]) -> Pl
 {
     let n = lent.n;
     let m = lent.m;
-    let p = Place::open(measure, n, m);
+    let p = Place::open(Settings {
+        boards: n,
+        measure,
+        limit: m,
+    });
     if measure != 2 {
         area::zero_part(area, measure, n, m + 3);
         return p;
@@ -211,7 +224,7 @@ fn whole_run(lent: &LentPicks<'_>, measure: usize, area: &mut [u32]) -> Answer
 {
     let p = whole_start(lent, measure, area);
     let q = whole_steps(p, area, lent);
-    zero_needed(lent.n, measure, lent.m, area);
+    zero_needed(p.settings, area);
     report(q)
 }
 

@@ -77,7 +77,7 @@ fn decide_run(lent: &LentPicks<'_>, measure: usize, k: usize, area: &mut [u32]) 
 {
     let p = calls::whole_start(lent, measure, area);
     let q = hold_picks(p, area, lent, k);
-    calls::zero_needed(lent.n, measure, lent.m, area);
+    calls::zero_needed(p.settings, area);
     answer_at(q)
 }
 

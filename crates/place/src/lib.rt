@@ -160,15 +160,14 @@ impl Place {
         }
     }
 
-    // The opened place: the fresh value of its measure, for n boards and a limit.
+    // The opened place: the fresh value of its measure, with the settings of the walk.
     #[tactic(auto, unfolding(crate::specs::Places::fresh))]
-    pub fn open(measure: usize, n: usize, limit: usize) -> Place
-        requires { (1 ≤ measure) × (measure ≤ 4) }
-        ensures { result ≡ fresh measure n limit }
+    pub fn open(settings: Settings) -> Place
+        requires { (1 ≤ settings.measure) × (settings.measure ≤ 4) }
+        ensures { result ≡ fresh settings.measure settings.boards settings.limit }
     {
-        let mut p = Place::of_measure(measure);
-        p.settings.boards = n;
-        p.settings.limit = limit;
+        let mut p = Place::of_measure(settings.measure);
+        p.settings = settings;
         p
     }
 

@@ -12,23 +12,23 @@ ghost use Rattle.verdicts.specs.Verdicts.{open_verdict, pick_verdict, whole_verd
 
 use links::LentPicks;
 use model::Refusal;
-use place::Place;
+use place::{Place, Settings};
 
 // The words that an area needs.
-pub fn needed_words(measure: usize, n: usize, limit: usize) -> usize
-    requires { (n ≤ 32) × (limit ≤ 4096) }
-    ensures { result ≡ needed measure n limit }
+pub fn needed_words(settings: Settings) -> usize
+    requires { (settings.boards ≤ 32) × (settings.limit ≤ 4096) }
+    ensures { result ≡ needed settings.measure settings.boards settings.limit }
 {
-    let e = area::width(measure, n);
-    (limit + 4) * e
+    let e = area::width(settings.measure, settings.boards);
+    (settings.limit + 4) * e
 }
 
 // Whether the area is shorter than that: cause 4.
-fn is_short(area: &[u32], measure: usize, n: usize, limit: usize) -> bool
-    requires { (n ≤ 32) × (limit ≤ 4096) }
-    ensures { result ≡ ltb (length area.now) (needed measure n limit) }
+fn is_short(area: &[u32], settings: Settings) -> bool
+    requires { (settings.boards ≤ 32) × (settings.limit ≤ 4096) }
+    ensures { result ≡ ltb (length area.now) (needed settings.measure settings.boards settings.limit) }
 {
-    area.len() < needed_words(measure, n, limit)
+    area.len() < needed_words(settings)
 }
 
 // The causes that every recording lent whole is asked first, in their order: 10, 8, 3. Where there is none, its picks.
@@ -54,11 +54,11 @@ pub fn lent_verdict(words: &[u32], n: usize) -> Result<LentPicks<'_>, Refusal>
 // ---- opening
 
 #[tactic(auto, unfolding(model::specs::Causes::first_of))]
-fn room_verdict(area: &[u32], measure: usize, n: usize, limit: usize) -> Result<(), Refusal>
-    requires { (n ≤ 32) × (limit ≤ 4096) }
-    ensures { verdict_says result ≡ first_of ((ltb (length area.now) (needed measure n limit), 4) ∷ []) }
+fn room_verdict(area: &[u32], settings: Settings) -> Result<(), Refusal>
+    requires { (settings.boards ≤ 32) × (settings.limit ≤ 4096) }
+    ensures { verdict_says result ≡ first_of ((ltb (length area.now) (needed settings.measure settings.boards settings.limit), 4) ∷ []) }
 {
-    if is_short(area, measure, n, limit) {
+    if is_short(area, settings) {
         return Err(Refusal::Room);
     }
     Ok(())
@@ -66,45 +66,41 @@ fn room_verdict(area: &[u32], measure: usize, n: usize, limit: usize) -> Result<
 
 // The causes of an opening, in their order: 1, 2, 3, 10, 5, 4. Only measure 2 has a footprint.
 #[tactic(auto, unfolding(model::specs::Causes::first_of, model::specs::Causes::between, crate::specs::Verdicts::open_verdict))]
-pub fn open_verdict(
-    n: usize,
-    measure: usize,
-    limit: usize,
-    footprint: &[u32],
-    area: &[u32],
-) -> Result<(), Refusal>
-    ensures { verdict_says result ≡ open_verdict n measure limit footprint.now area.now }
+pub fn open_verdict(settings: Settings, footprint: &[u32], area: &[u32]) -> Result<(), Refusal>
+    ensures { verdict_says result ≡ open_verdict settings.boards settings.measure settings.limit footprint.now area.now }
 {
-    if !model::is_between(2, n, 32) {
+    if !model::is_between(2, settings.boards, 32) {
         return Err(Refusal::Boards);
     }
-    if !model::is_between(1, measure, 4) {
+    if !model::is_between(1, settings.measure, 4) {
         return Err(Refusal::Measure);
     }
-    if !model::is_between(1, limit, 4096) {
+    if !model::is_between(1, settings.limit, 4096) {
         return Err(Refusal::Picks);
     }
-    if measure != 2 {
-        return room_verdict(area, measure, n, limit);
+    if settings.measure != 2 {
+        return room_verdict(area, settings);
     }
-    if footprint.len() != n {
+    if footprint.len() != settings.boards {
         return Err(Refusal::Shape);
     }
     if !checks::is_clean(footprint) {
         return Err(Refusal::Forbidden);
     }
-    room_verdict(area, measure, n, limit)
+    room_verdict(area, settings)
 }
 
 // ---- pick
 
 // Whether the footprint in part limit + 3 has every link of a pick.
-fn is_listed(area: &[u32], words: &[u32], measure: usize, n: usize, limit: usize) -> bool
-    requires { (n ≤ 32) × (limit ≤ 4096) × (measure ≡ 2) × (n ≡ length words.now) × (needed measure n limit ≤ length area.now) }
-    ensures { result ≡ listed n (table_at (kit measure n) area.now (limit + 3)) words.now }
+fn is_listed(area: &[u32], words: &[u32], settings: Settings) -> bool
+    requires { (settings.boards ≤ 32) × (settings.limit ≤ 4096) × (settings.measure ≡ 2) × (settings.boards ≡ length words.now)
+        × (needed settings.measure settings.boards settings.limit ≤ length area.now) }
+    ensures { result ≡ listed settings.boards (table_at (kit settings.measure settings.boards) area.now (settings.limit + 3)) words.now }
 {
-    let e = area::width(measure, n);
-    let at = (limit + 2) * e;
+    let n = settings.boards;
+    let e = area::width(settings.measure, n);
+    let at = (settings.limit + 2) * e;
     checks::is_listed(&area[at..at + n], words)
 }
 
@@ -113,28 +109,25 @@ fn is_listed(area: &[u32], words: &[u32], measure: usize, n: usize, limit: usize
 pub fn pick_verdict(p: Place, area: &[u32], words: &[u32]) -> Result<(), Refusal>
     ensures { verdict_says result ≡ pick_verdict p area.now words.now }
 {
-    let n = p.settings.boards;
-    let limit = p.settings.limit;
-    let measure = p.settings.measure;
     if !p.is_sound() {
         return Err(Refusal::BadPlace);
     }
-    if limit <= p.window.taken.0 {
+    if p.settings.limit <= p.window.taken.0 {
         return Err(Refusal::Full);
     }
-    if words.len() != n {
+    if words.len() != p.settings.boards {
         return Err(Refusal::Shape);
     }
     if !checks::is_clean(words) {
         return Err(Refusal::Forbidden);
     }
-    if is_short(area, measure, n, limit) {
+    if is_short(area, p.settings) {
         return Err(Refusal::Room);
     }
-    if measure != 2 {
+    if p.settings.measure != 2 {
         return Ok(());
     }
-    if !is_listed(area, words, measure, n, limit) {
+    if !is_listed(area, words, p.settings) {
         return Err(Refusal::Unlisted);
     }
     Ok(())
@@ -148,7 +141,12 @@ fn run_verdict(lent: &LentPicks<'_>, measure: usize, area: &[u32]) -> Result<(),
     requires { (lent.now.n ≤ 32) × (lent.now.m ≤ 4096) }
     ensures { verdict_says result ≡ first_of (run_causes lent.now.n measure lent.now.words.now lent.now.m area.now) }
 {
-    if is_short(area, measure, lent.n, lent.m) {
+    let settings = Settings {
+        boards: lent.n,
+        measure,
+        limit: lent.m,
+    };
+    if is_short(area, settings) {
         return Err(Refusal::Room);
     }
     if !checks::are_clean(lent) {

@@ -5,7 +5,7 @@ use native.Mathlib.Omega.{arith}
 use Rattle.place.specs.declared.Place.{Place}
 use Rattle.place.specs.Places.{fresh, charged}
 use Rattle.calls.specs.Calls.{whole_start}
-use Rattle.calls.proofs.Loops.{whole_starts, whole_beyond, list-cost}
+use Rattle.calls.proofs.Loops.{start_settings, whole_starts, whole_beyond, list-cost}
 use Rattle.decision.specs.Decisions.{decided_at, decision_report}
 use Rattle.decision.proofs.Held.{held_ends}
 use Rattle.decision.proofs.decide_run.Goals as goal
@@ -22,12 +22,19 @@ hold_picks-q-requires c =
       sym e,
     )
 
+pub zero_needed-requires : goal.zero_needed-requires
+zero_needed-requires c =
+    let r = c.requires.0 in
+    let e = start_settings c.args.lent.now.n c.args.measure c.args.lent.now.m _ _ c.whole_start-p.ensures.place in
+    rw (e, c.hold_picks-q.auto.area, c.whole_start-p.auto.area) (r.few, r.cap, r.room)
+
 pub returns : goal.returns
 unfolding decision_report
 returns c =
-    let b = c.whole_start-p.ensures in (
+    let b = c.whole_start-p.ensures in
+    let e = start_settings c.args.lent.now.n c.args.measure c.args.lent.now.m _ _ b.place in (
       c.answer_at.ensures ∙ ap decided_at (held_ends c.args.lent.now.n c.args.measure c.args.lent.now.m c.args.k c.args.lent.now.words.now c.args.area.now
           c.requires.0 c.requires.1 b c.whole_start-p.auto.area c.hold_picks-q.ensures.does),
-      c.zero_needed.ensures ∙ whole_beyond c.args.lent.now.n c.args.measure c.args.lent.now.m c.args.lent.now.words.now c.args.area.now _ b
+      rw e at c.zero_needed.ensures ∙ whole_beyond c.args.lent.now.n c.args.measure c.args.lent.now.m c.args.lent.now.words.now c.args.area.now _ b
           c.hold_picks-q.ensures.beyond,
     )

@@ -14,5 +14,5 @@ slice_bounds-is_listed-end c = omega (arith, third_room _ _ _ _ c.requires.2 c.w
 pub returns : goal.returns
 returns c =
     rw (sym c.requires.3) at c.is_listed.ensures
-    ∙ ap (λ (x : List ℕ). listed c.args.n x c.args.words.now)
-    (third_lent c.args.measure c.args.n _ _ c.requires.2 c.width-e.ensures)
+    ∙ ap (λ (x : List ℕ). listed c.args.settings.boards x c.args.words.now)
+    (third_lent c.args.settings.measure c.args.settings.boards _ _ c.requires.2 c.width-e.ensures)
