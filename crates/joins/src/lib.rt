@@ -95,10 +95,10 @@ fn add_columns(out: &mut [u32], left: &[u32], right: &[u32], n: usize)
 // The composition by columns: the union, and the pairs that are joined over some board.
 #[tactic(auto, using(crate::proofs::Rows::clear_through))]
 fn join_columns(out: &mut [u32], left: &[u32], right: &[u32], n: usize)
-    requires { (n ≤ 32) × ((n ≡ length out.old) × ((n ≤ length left.now) × (n ≤ length right.now))) }
+    requires { (n ≤ 32) × (out.old ≡ left.now) × (n ≡ length out.old) × (n ≤ length right.now) }
     ensures { out.new ≡ compose n left.now right.now }
 {
-    links::unite(out, left, right);
+    links::unite_into(out, right);
     add_columns(out, left, right, n);
     clear_own(out);
 }

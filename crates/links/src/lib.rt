@@ -103,18 +103,7 @@ impl<'a> LentPicks<'a> {
     }
 }
 
-// ---- compositions: each writes one table over the n words of out
-
-// The links open in either.
-#[tactic(auto, using(lists::proofs::Tab::made_all), unfolding(crate::specs::Tables::either_row, crate::specs::Tables::union))]
-pub fn unite(out: &mut [u32], left: &[u32], right: &[u32])
-    requires { (length out.old ≤ length left.now) × (length out.old ≤ length right.now) }
-    ensures { out.new ≡ union (length out.old) left.now right.now }
-{
-    for (u, row) in out.iter_mut().enumerate() {
-        *row = left[u] | right[u];
-    }
-}
+// ---- compositions: each writes one table over the words of the earlier one
 
 // The links of `right` join those of t.
 #[tactic(auto, using(lists::proofs::Tab::made_all), unfolding(crate::specs::Tables::either_row, crate::specs::Tables::union))]
