@@ -229,6 +229,7 @@ fn are_full(left: &[u32], ts: &[[u32; 16]; 8]) -> bool
     ensures { result ≡ every (looked_full (length left.now) ts.now left.now) (length left.now) }
 {
     let all = links::low_bits(left.len());
+    // No `all`: as in `searches::is_full`.
     for (u, row) in left.iter().enumerate() {
         if through(*row, Board(u), ts) & all != all {
             return false;
