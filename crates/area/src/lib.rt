@@ -191,13 +191,9 @@ pub fn joined_passes(
     let at = (l - 1) * e;
     let to = (r - 1) * e;
     if measure == 3 {
-        return joins::joins_full(&area[at..at + n], &area[to..to + n], n);
+        return joins::joins_full(&area[at..at + n], &area[to..to + n]);
     }
-    links::is_union(
-        &area[from..from + n],
-        &area[at..at + n],
-        &area[to..to + n],
-    )
+    links::is_union(&area[from..from + n], &area[at..at + n], &area[to..to + n])
 }
 
 // ---- many parts at once

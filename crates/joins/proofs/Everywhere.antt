@@ -39,8 +39,8 @@ led_in t (suc n) w v h l =
     (⊎_elim (λ (e : w ≡ n). or_r (bit (led_to t n) v) (link t n v) (subst (λ (x : ℕ). T (link t x v)) e l))
     (λ (q : w < n). or_l (bit (led_to t n) v) (link t n v) (led_in t n w v q l)) (eq-or-lt_of_le (le_of_suc-le-suc h)))
 
-pub led_into : (n : ℕ) (t : List ℕ) {into : ℕ} → n ≡ length t → into ≡ led_to t (length t) → Into n t into
-led_into n t z e = record { led = λ u w h l. rw (e, sym z) (led_in t n u w h l) }
+pub led_into : (n : ℕ) (t : List ℕ) {into : ℕ} → into ≡ led_to t n → Into n t into
+led_into n t e = record { led = λ u w h l. rw e (led_in t n u w h l) }
 
 led_out : (t : List ℕ) (n v : ℕ) → T (bit (led_to t n) v) → (w : ℕ) × (w < n) × T (link t w v)
 unfolding any_of

@@ -9,7 +9,7 @@ use native.Mathlib.Omega.{arith}
 use lib.Bits.{bit_and, bit_or, or_lt}
 use lib.Dec.{T, eqb, eqb→eq, eqb_refl}
 use lib.ListN.{length, take, get_or}
-use lib.Seq.{ext_get_or, get_or-take, length-take-le}
+use lib.Seq.{ext_get_or}
 use lib.Pow.{pow_mono, shr-shr, field, mod-mod-pow}
 use Rattle.model.specs.Recording.{bit, link}
 use Rattle.model.proofs.Logic.{tr, T→≡, bool_ext, or_l, or_r, or_cases, and_both, and_l, and_r, eqb_ne, ne_eqb, eq_or, eq_refl, le_or_lt}
@@ -217,14 +217,14 @@ tables_by rows ts m e f =
 
 -- a turn of the test of all rows
 module _ (n : ℕ) (ts : List (List ℕ)) (s : List ℕ) (u : ℕ) (h : u < n) where
-  pub looked_turn : every (looked_full n ts s) u ≡ true → bit_and (looked_word ts (get_or (take n s) u 0) u) (2 ^ n - 1) ≡ 2 ^ n - 1
+  pub looked_turn : every (looked_full n ts s) u ≡ true → bit_and (looked_word ts (get_or s u 0) u) (2 ^ n - 1) ≡ 2 ^ n - 1
       → every (looked_full n ts s) (u + 1) ≡ true
   unfolding looked_full
-  looked_turn e q = every-next (looked_full n ts s) u e (T→≡ _ (eq_refl (rw get_or-take at q)))
+  looked_turn e q = every-next (looked_full n ts s) u e (T→≡ _ (eq_refl q))
 
-  pub looked_stop : (bit_and (looked_word ts (get_or (take n s) u 0) u) (2 ^ n - 1) ≢ 2 ^ n - 1) → every (looked_full n ts s) n ≡ false
+  pub looked_stop : (bit_and (looked_word ts (get_or s u 0) u) (2 ^ n - 1) ≢ 2 ^ n - 1) → every (looked_full n ts s) n ≡ false
   unfolding looked_full
-  looked_stop q = every_stop (looked_full n ts s) n u h (not_equal _ _ (rw get_or-take at q))
+  looked_stop q = every_stop (looked_full n ts s) n u h (not_equal _ _ q)
 
 -- a turn of the loop over the tables
 pub looked_none : (ts : List (List ℕ)) (row : ℕ) → looked ts row 0 ≡ row
@@ -241,7 +241,7 @@ looked_all_eight ts x u = refl
 
 pub ruleset looked_turns = (one_bit, looked_none, looked_next, looked_all_eight)
 
-pub ruleset full_turns = (every_none, looked_turn, looked_stop, length-take-le)
+pub ruleset full_turns = (every_none, looked_turn, looked_stop)
 
 pub ruleset look_ups = (looked-compose, looked-full)
 

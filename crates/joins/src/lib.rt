@@ -64,12 +64,14 @@ fn add_four(out: &mut [u32], left: &[u32], right: &[u32], b: Board)
     }
 }
 
-// The columns of the boards below r, as many as go by fours.
+// The columns of the boards below the number returned, as many as go by fours.
 #[tactic(auto, using(crate::proofs::Rows::column_turns))]
-fn add_fours(out: &mut [u32], left: &[u32], right: &[u32], n: usize) -> usize
-    requires { (n ≤ 32) × ((out.old ≡ union n left.now right.now) × ((n ≡ length out.old) × ((n ≤ length left.now) × (n ≤ length right.now)))) }
-    ensures { (result ≤ n) × (out.new ≡ tab (through_row left.now right.now result) n) }
+fn add_fours(out: &mut [u32], left: &[u32], right: &[u32]) -> usize
+    requires { (length out.old ≤ 32) × (out.old ≡ union (length out.old) left.now right.now)
+        × (length out.old ≤ length left.now) × (length out.old ≤ length right.now) }
+    ensures { (result ≤ length out.old) × (out.new ≡ tab (through_row left.now right.now result) (length out.old)) }
 {
+    let n = out.len();
     let mut w = 0;
     // By hand: a `for` over the fours costs 2 per cent more instructions.
     while w + 4 <= n {
@@ -81,25 +83,27 @@ fn add_fours(out: &mut [u32], left: &[u32], right: &[u32], n: usize) -> usize
 
 // The columns of all boards.
 #[tactic(auto, using(crate::proofs::Rows::column_turns))]
-fn add_columns(out: &mut [u32], left: &[u32], right: &[u32], n: usize)
-    requires { (n ≤ 32) × ((out.old ≡ union n left.now right.now) × ((n ≡ length out.old) × ((n ≤ length left.now) × (n ≤ length right.now)))) }
-    ensures { out.new ≡ tab (through_row left.now right.now n) n }
+fn add_columns(out: &mut [u32], left: &[u32], right: &[u32])
+    requires { (length out.old ≤ 32) × (out.old ≡ union (length out.old) left.now right.now)
+        × (length out.old ≤ length left.now) × (length out.old ≤ length right.now) }
+    ensures { out.new ≡ tab (through_row left.now right.now (length out.old)) (length out.old) }
 {
-    let from = add_fours(out, left, right, n);
+    let n = out.len();
+    let from = add_fours(out, left, right);
     // By number: the rest of a slice would count from 0 again.
     for w in from..n {
         add_column(out, left, right[w], Board(w));
     }
 }
 
-// The composition by columns: the union, and the pairs that are joined over some board.
+// The composition by columns: the union, and the pairs that are joined over some board. The earlier part is lent a second time, as it was.
 #[tactic(auto, using(crate::proofs::Rows::clear_through))]
-fn join_columns(out: &mut [u32], left: &[u32], right: &[u32], n: usize)
-    requires { (n ≤ 32) × ((n ≡ length out.old) × ((n ≤ length left.now) × (n ≤ length right.now))) }
-    ensures { out.new ≡ compose n left.now right.now }
+fn join_columns(out: &mut [u32], left: &[u32], right: &[u32])
+    requires { (length out.old ≤ 32) × (out.old ≡ left.now) × (length out.old ≤ length right.now) }
+    ensures { out.new ≡ compose (length out.old) left.now right.now }
 {
-    links::unite(out, left, right);
-    add_columns(out, left, right, n);
+    links::unite_into(out, right);
+    add_columns(out, left, right);
     clear_own(out);
 }
 
@@ -184,9 +188,9 @@ fn join_rows(t: &mut [u32], ts: &[[u32; 16]; 8])
 
 // The composition by tables of unions, in place.
 #[tactic(auto, using(crate::proofs::LookUps::look_ups))]
-fn join_tables(t: &mut [u32], right: &[u32], n: usize)
-    requires { (n ≤ 32) × ((n ≡ length t.old) × (n ≡ length right.now)) }
-    ensures { t.new ≡ compose n t.old right.now }
+fn join_tables(t: &mut [u32], right: &[u32])
+    requires { (length t.old ≤ 32) × (length t.old ≡ length right.now) }
+    ensures { t.new ≡ compose (length t.old) t.old right.now }
 {
     let later = lists::load(right);
     let ts = tables(&later);
@@ -194,12 +198,10 @@ fn join_tables(t: &mut [u32], right: &[u32], n: usize)
 }
 
 // How many rows have links.
-fn filled(t: &[u32], n: usize) -> usize
-    requires { n ≤ length t.now }
-{
+fn filled(t: &[u32]) -> usize {
     let mut k = 0usize;
     // `filter` and `count` cost more than twice the instructions.
-    for row in &t[..n] {
+    for row in t {
         k += usize::from(*row != 0);
     }
     k
@@ -208,26 +210,27 @@ fn filled(t: &[u32], n: usize) -> usize
 // The later part is composed onto t, the earlier one. Where few of its rows have links, their columns cost less than the tables; they read the
 // earlier part as it was, so it is copied first.
 #[tactic(auto, using(crate::proofs::LookUps::lent_words))]
-pub fn join_over(t: &mut [u32], right: &[u32], n: usize)
-    requires { (n ≤ 32) × ((n ≡ length t.old) × (n ≡ length right.now)) }
-    ensures { t.new ≡ compose n t.old right.now }
+pub fn join_over(t: &mut [u32], right: &[u32])
+    requires { (length t.old ≤ 32) × (length t.old ≡ length right.now) }
+    ensures { t.new ≡ compose (length t.old) t.old right.now }
 {
-    if filled(right, n) <= 8 {
+    if filled(right) <= 8 {
         let before = lists::load(t);
-        join_columns(t, &before[..n], right, n);
+        join_columns(t, &before[..right.len()], right);
     } else {
-        join_tables(t, right, n);
+        join_tables(t, right);
     }
 }
 
 // Whether every row of the composition has the bits of all boards, its own counted in. The first that lacks one ends it.
 #[tactic(auto, using(crate::proofs::LookUps::full_turns))]
-fn are_full(left: &[u32], ts: &[[u32; 16]; 8], n: usize) -> bool
-    requires { (n ≤ 32) × (n ≤ length left.now) }
-    ensures { result ≡ every (looked_full n ts.now left.now) n }
+fn are_full(left: &[u32], ts: &[[u32; 16]; 8]) -> bool
+    requires { length left.now ≤ 32 }
+    ensures { result ≡ every (looked_full (length left.now) ts.now left.now) (length left.now) }
 {
-    let all = links::low_bits(n);
-    for (u, row) in left[..n].iter().enumerate() {
+    let all = links::low_bits(left.len());
+    // No `all`: as in `searches::is_full`.
+    for (u, row) in left.iter().enumerate() {
         if through(*row, Board(u), ts) & all != all {
             return false;
         }
@@ -237,13 +240,13 @@ fn are_full(left: &[u32], ts: &[[u32; 16]; 8], n: usize) -> bool
 
 // Whether the composition marks every ordered pair of different boards, without writing it.
 #[tactic(auto, using(crate::proofs::LookUps::look_ups))]
-pub fn joins_full(left: &[u32], right: &[u32], n: usize) -> bool
-    requires { (n ≤ 32) × ((n ≤ length left.now) × (n ≡ length right.now)) }
-    ensures { result ≡ full n (compose n left.now right.now) }
+pub fn joins_full(left: &[u32], right: &[u32]) -> bool
+    requires { (length left.now ≤ 32) × (length left.now ≡ length right.now) }
+    ensures { result ≡ full (length left.now) (compose (length left.now) left.now right.now) }
 {
     let later = lists::load(right);
     let ts = tables(&later);
-    are_full(left, &ts, n)
+    are_full(left, &ts)
 }
 
 // ---- a pick's own table
@@ -277,58 +280,58 @@ fn pass_if(t: &mut [u32], into: u32, b: Board)
 
 // A pass leads to no board that no link led to before, so the boards that some link leads to are looked up once.
 #[tactic(auto, using(crate::proofs::Everywhere::pass_turns), unfolding(crate::specs::Warshall::passes))]
-fn pass_over_all(t: &mut [u32], n: usize)
-    requires { (n ≤ 32) × (n ≡ length t.old) }
-    ensures { t.new ≡ passes n t.old n }
+fn pass_over_all(t: &mut [u32])
+    requires { length t.old ≤ 32 }
+    ensures { t.new ≡ passes (length t.old) t.old (length t.old) }
 {
     let into = lists::any_of(t);
     // By board: each pass changes the whole table.
-    for w in 0..n {
+    for w in 0..t.len() {
         pass_if(t, into, Board(w));
     }
 }
 
 // The pairs joined within one pick, by Warshall's method, which knows no limit.
 #[tactic(auto, using(crate::proofs::Closure::closes), unfolding(crate::specs::Warshall::closed))]
-fn close_by_passes(t: &mut [u32], n: usize)
-    requires { (n ≤ 32) × (n ≡ length t.old) }
-    ensures { t.new ≡ within n most_links t.old }
+fn close_by_passes(t: &mut [u32])
+    requires { length t.old ≤ 32 }
+    ensures { t.new ≡ within (length t.old) most_links t.old }
 {
-    pass_over_all(t, n);
+    pass_over_all(t);
     clear_own(t);
 }
 
 // The pairs joined within one pick. Where links lead from every board to every other, each gets to all boards that some link leads to: two
 // searches tell, and no pass is made.
 #[tactic(auto, using(crate::proofs::Everywhere::everywhere_closed))]
-fn close(t: &mut [u32], n: usize)
-    requires { (n ≤ 32) × (n ≡ length t.old) }
-    ensures { t.new ≡ within n most_links t.old }
+fn close(t: &mut [u32])
+    requires { length t.old ≤ 32 }
+    ensures { t.new ≡ within (length t.old) most_links t.old }
 {
-    if searches::is_connected(t, n) {
+    if searches::is_connected(t) {
         let boards = lists::any_of(t);
         links::fill_rows(t, boards);
     } else {
-        close_by_passes(t, n);
+        close_by_passes(t);
     }
 }
 
 // The pairs joined within the pick of the words, over out.
-pub fn close_over(out: &mut [u32], words: &[u32], n: usize)
-    requires { (n ≤ 32) × ((n ≡ length out.old) × (n ≡ length words.now)) }
-    ensures { out.new ≡ within n most_links words.now }
+pub fn close_over(out: &mut [u32], words: &[u32])
+    requires { (length words.now ≤ 32) × (length out.old ≡ length words.now) }
+    ensures { out.new ≡ within (length words.now) most_links words.now }
 {
     out.copy_from_slice(words);
-    close(out, n);
+    close(out);
 }
 
 // The pairs joined within the pick of the words, by value, and zeros up to 32.
 #[tactic(auto, using(std::proofs::lemmas::Grind::common_steps), unfolding(lists::specs::Tab::splice))]
-pub fn closed_words(words: &[u32], n: usize) -> [u32; 32]
-    requires { (n ≤ 32) × (n ≡ length words.now) }
-    ensures { result ≡ splice 0 n (within n most_links words.now) (zeros 32) }
+pub fn closed_words(words: &[u32]) -> [u32; 32]
+    requires { length words.now ≤ 32 }
+    ensures { result ≡ splice 0 (length words.now) (within (length words.now) most_links words.now) (zeros 32) }
 {
     let mut t = lists::load(words);
-    close(&mut t[..n], n);
+    close(&mut t[..words.len()]);
     t
 }

@@ -115,18 +115,7 @@ impl<'a> LentPicks<'a> {
     }
 }
 
-// ---- compositions: each writes one table over the n words of out
-
-// The links open in either.
-#[tactic(auto, using(lists::proofs::Tab::made_all), unfolding(crate::specs::Tables::either_row, crate::specs::Tables::union))]
-pub fn unite(out: &mut [u32], left: &[u32], right: &[u32])
-    requires { (length out.old ≤ length left.now) × (length out.old ≤ length right.now) }
-    ensures { out.new ≡ union (length out.old) left.now right.now }
-{
-    for (u, row) in out.iter_mut().enumerate() {
-        *row = left[u] | right[u];
-    }
-}
+// ---- compositions: each writes one table over the words of the earlier one
 
 // The links of `right` join those of t.
 #[tactic(auto, using(lists::proofs::Tab::made_all), unfolding(crate::specs::Tables::either_row, crate::specs::Tables::union))]
@@ -134,6 +123,7 @@ pub fn unite_into(t: &mut [u32], right: &[u32])
     requires { length t.old ≤ length right.now }
     ensures { t.new ≡ union (length t.old) t.old right.now }
 {
+    // By index: what is written through a `zip` over `iter_mut` is lost to the proof.
     for (u, row) in t.iter_mut().enumerate() {
         *row |= right[u];
     }
@@ -159,8 +149,8 @@ pub fn is_same(left: &[u32], right: &[u32]) -> bool
     ensures { result ≡ same (length right.now) left.now right.now }
 {
     let mut bad = 0u32;
-    for (u, row) in right.iter().enumerate() {
-        bad |= *row ^ left[u];
+    for (row, other) in right.iter().zip(left) {
+        bad |= *row ^ *other;
     }
     bad == 0
 }
@@ -173,6 +163,7 @@ pub fn is_union(list: &[u32], left: &[u32], right: &[u32]) -> bool
     ensures { result ≡ same (length list.now) list.now (union (length list.now) left.now right.now) }
 {
     let mut bad = 0u32;
+    // By index: of a `zip` of three the check does not find which words it yields.
     for (u, row) in list.iter().enumerate() {
         bad |= (left[u] | right[u]) ^ *row;
     }
@@ -188,8 +179,8 @@ pub fn differing(left: &[u32], right: &[u32]) -> u32
     ensures { result ≡ differing (length left.now) left.now right.now }
 {
     let mut k = 0u32;
-    for (u, row) in left.iter().enumerate() {
-        k += (*row ^ right[u]).count_ones();
+    for (row, other) in left.iter().zip(right) {
+        k += (*row ^ *other).count_ones();
     }
     k
 }

@@ -40,18 +40,19 @@ pub fn compose(t: &mut [u32], right: &[u32], measure: usize, n: usize)
 {
     match measure {
         4 => folds::compose_over(t, right, n),
-        3 => joins::join_over(t, right, n),
+        3 => joins::join_over(t, right),
         _ => compose_words(t, right, measure),
     }
 }
 
 // The own table of measure 4: the pairs joined within the pick are worked out in a local table of links.
 #[tactic(auto, using(crate::proofs::Words::lent_within))]
-fn own_times(out: &mut [u32], words: &[u32], n: usize, pick: Pick)
-    requires { (n ≤ 32) × ((pick.0 < 2 ^ 32) × ((times_words n ≡ length out.old) × (n ≡ length words.now))) }
-    ensures { out.new ≡ own_times n pick.0 (within n hops01 words.now) }
+fn own_times(out: &mut [u32], words: &[u32], pick: Pick)
+    requires { (length words.now ≤ 32) × (pick.0 < 2 ^ 32) × (times_words (length words.now) ≡ length out.old) }
+    ensures { out.new ≡ own_times (length words.now) pick.0 (within (length words.now) hops01 words.now) }
 {
-    let joined = joins::closed_words(words, n);
+    let n = words.len();
+    let joined = joins::closed_words(words);
     times::own(out, &joined[..n], n, pick);
 }
 
@@ -62,8 +63,8 @@ pub fn own(out: &mut [u32], words: &[u32], measure: usize, n: usize, pick: Pick)
     ensures { out.new ≡ own_of hops01 measure n pick.0 words.now }
 {
     match measure {
-        4 => own_times(out, words, n, pick),
-        3 => joins::close_over(out, words, n),
+        4 => own_times(out, words, pick),
+        3 => joins::close_over(out, words),
         _ => out.copy_from_slice(words),
     }
 }
@@ -83,8 +84,8 @@ pub fn passes(footprint: &[u32], t: &[u32], measure: usize, n: usize, turn: u32)
 {
     match measure {
         4 => times::in_time(t, n, turn),
-        3 => searches::is_full(t, n),
+        3 => searches::is_full(t),
         2 => links::is_same(footprint, t),
-        _ => searches::is_connected(t, n),
+        _ => searches::is_connected(t),
     }
 }

@@ -2,11 +2,12 @@
 use mathlib.Core.Path.{◌≡◌, refl, sym, ap, ap₂, ◌∙◌}
 use mathlib.Core.List.{List, [], ◌∷◌, ◌++◌}
 use Prim.Native.Nat.{ℕ, suc, ◌+◌, ◌-◌, ◌*◌, ◌/◌, ◌≤◌, ◌<◌}
-use native.Mathlib.Nat.{one-mul, le_refl}
+use native.Mathlib.Nat.{one-mul, le_refl, mul-le-mul_right}
 use native.Mathlib.Numerals.{add-one}
 use native.Mathlib.Omega.{arith}
 use lib.Dec.{T}
 use lib.ListN.{length, take, drop}
+use lib.Seq.{length-take-le}
 use Rattle.model.proofs.Causes.{none_holds, between_says, in-range, holds_by, not_of_true}
 use Rattle.links.specs.Tables.{compose, within}
 use Rattle.links.specs.Composed.{composed_from, composed, reach}
@@ -90,21 +91,22 @@ pub record Reached (n h m : ℕ) (w : List ℕ) (k : ℕ) (rest out : List ℕ) 
   pub behind : Behind n m w k rest
   pub table : out ≡ reach n h (lent_picks n w k)
 
-pub reached_first : {n h m : ℕ} {w out : List ℕ} → 1 ≤ m → out ≡ within n h (take n w) → Reached n h m w 1 (take (m * n - n) (drop n w)) out
-reached_first {n} {h} {m} {w} l e = record {
+pub reached_first : {n h m : ℕ} {w out : List ℕ} → m * n ≤ length w → 1 ≤ m → (let p = take n w in out ≡ within (length p) h p)
+    → Reached n h m w 1 (take (m * n - n) (drop n w)) out
+reached_first {n} {h} {m} {w} room l e = record {
   some = le_refl 1;
   behind = rw one-mul at (behind_first n m 1 w l);
-  table = e ∙ ap (within n h) (first_words n w) ∙ sym (reach_first n h w);
+  table = rw (length-take-le n w (omega (arith, mul-le-mul_right n l))) at e ∙ ap (within n h) (first_words n w) ∙ sym (reach_first n h w);
 }
 
 pub reached_turn : {n h m k : ℕ} {w rest out rest' out' : List ℕ} (p : List ℕ) → m * n ≤ length w → 1 ≤ n → Reached n h m w k rest out
-    → rest ≡ p ++ rest' → length p ≡ n → out' ≡ compose n out (within n h p) → Reached n h m w (k + 1) rest' out'
+    → rest ≡ p ++ rest' → length p ≡ n → out' ≡ compose (length p) out (within (length p) h p) → Reached n h m w (k + 1) rest' out'
 unfolding lent_picks
 reached_turn {n} {h} {m} {k} {w} p room some r e l c =
     let t = behind_turn room r.behind some e l in record {
       some = omega arith;
       behind = t.behind;
-      table = c ∙ ap₂ (λ (x y : List ℕ). compose n x (within n h y)) r.table t.pick
+      table = rw l at c ∙ ap₂ (λ (x y : List ℕ). compose n x (within n h y)) r.table t.pick
           ∙ sym (reach_snoc n h (lent_picks n w k) (lent_pick n w k) (let s = r.some in omega (arith, length_lent n w k)))
           ∙ ap (λ (i : ℕ). reach n h (lent_picks n w i)) (sym (add-one k));
     }

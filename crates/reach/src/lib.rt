@@ -15,12 +15,13 @@ use links::LentPicks;
 use model::Refusal;
 
 // The table takes in one pick more: the pick's own table is composed onto it.
-fn add_pick(out: &mut [u32], pick: &[u32], n: usize)
-    requires { (n ≤ 32) × ((n ≡ length out.old) × (n ≡ length pick.now)) }
-    ensures { out.new ≡ compose n out.old (within n hops01 pick.now) }
+#[tactic(auto, using(measures::proofs::Words::lent_within))]
+fn add_pick(out: &mut [u32], pick: &[u32])
+    requires { (length pick.now ≤ 32) × (length out.old ≡ length pick.now) }
+    ensures { out.new ≡ compose (length pick.now) out.old (within (length pick.now) hops01 pick.now) }
 {
-    let own = joins::closed_words(pick, n);
-    joins::join_over(out, &own[0..n], n);
+    let own = joins::closed_words(pick);
+    joins::join_over(out, &own[..pick.len()]);
 }
 
 // The table of the picks, from the first one on.
@@ -29,9 +30,9 @@ fn write_table(out: &mut [u32], lent: &LentPicks<'_>)
     ensures { out.new ≡ reach lent.now.n hops01 (lent_picks lent.now.n lent.now.words.now lent.now.m) }
 {
     let n = lent.n;
-    joins::close_over(out, &lent.words[..n], n);
+    joins::close_over(out, &lent.words[..n]);
     for pick in lent.words[n..lent.m * n].chunks_exact(n) {
-        add_pick(out, pick, n);
+        add_pick(out, pick);
     }
 }
 

@@ -8,8 +8,7 @@ use native.Mathlib.Omega.{arith}
 use lib.Bits.{bit_and, bit_or, and_le_l, or_lt}
 use lib.Count.{ones}
 use lib.Dec.{T, eqb, eqb→eq}
-use lib.ListN.{take, get_or}
-use lib.Seq.{get_or-take, length-take-le}
+use lib.ListN.{get_or}
 use borrow.Author.Tests.{ne_eqb}
 use Rattle.std.proofs.Common.{Fits, w32}
 use lib.Pow.{pow_pos, pow-lt}
@@ -66,16 +65,16 @@ row_unmarked n t u n32 h w =
 -- ---- a turn of the loops over the rows
 
 module _ (n : ℕ) (t : List ℕ) (u : ℕ) (h : u < n) (n32 : n ≤ 32) where
-  pub full_turn : every (row_full n t) u ≡ true → bit_and (bit_or (get_or (take n t) u 0) (2 ^ u)) (2 ^ n - 1) ≡ 2 ^ n - 1 → every (row_full n t) (u + 1) ≡ true
-  full_turn e q = every-next (row_full n t) u e (row-full n t u ∙ T→≡ _ (eq_refl (rw get_or-take at q)))
+  pub full_turn : every (row_full n t) u ≡ true → bit_and (bit_or (get_or t u 0) (2 ^ u)) (2 ^ n - 1) ≡ 2 ^ n - 1 → every (row_full n t) (u + 1) ≡ true
+  full_turn e q = every-next (row_full n t) u e (row-full n t u ∙ T→≡ _ (eq_refl q))
 
-  pub full_stop : (bit_and (bit_or (get_or (take n t) u 0) (2 ^ u)) (2 ^ n - 1) ≢ 2 ^ n - 1) → every (row_full n t) n ≡ false
-  full_stop q = every_stop (row_full n t) n u h (row-full n t u ∙ ne_eqb _ _ (rw get_or-take at q))
+  pub full_stop : (bit_and (bit_or (get_or t u 0) (2 ^ u)) (2 ^ n - 1) ≢ 2 ^ n - 1) → every (row_full n t) n ≡ false
+  full_stop q = every_stop (row_full n t) n u h (row-full n t u ∙ ne_eqb _ _ q)
 
   pub unmarked_turn : (k : ℕ) → k ≡ how_many_pairs (pair_unmarked t) n u → Fits w32 (get_or t u 0)
-      → k + ones (bit_and (2 ^ n - 1) (2 ^ 32 - 1 - bit_or (get_or (take n t) u 0) (2 ^ u))) ≡ how_many_pairs (pair_unmarked t) n (u + 1)
-  unmarked_turn k e a = rw get_or-take (row_counted (pair_unmarked t) n u e (row_unmarked n t u n32 (omega arith) (omega arith)))
+      → k + ones (bit_and (2 ^ n - 1) (2 ^ 32 - 1 - bit_or (get_or t u 0) (2 ^ u))) ≡ how_many_pairs (pair_unmarked t) n (u + 1)
+  unmarked_turn k e a = row_counted (pair_unmarked t) n u e (row_unmarked n t u n32 (omega arith) (omega arith))
 
-pub ruleset full_turns = (every_none, full_turn, full_stop, one_bit, length-take-le)
+pub ruleset full_turns = (every_none, full_turn, full_stop, one_bit)
 
-pub ruleset unmarked_turns = (pairs_none_yet, pairs_le, unmarked_turn, one_bit, length-take-le)
+pub ruleset unmarked_turns = (pairs_none_yet, pairs_le, unmarked_turn, one_bit)

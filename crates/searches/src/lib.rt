@@ -10,12 +10,13 @@ use model::Board;
 
 // Whether every ordered pair of different boards is marked: a row and its own bit have the bits of all boards.
 #[tactic(auto, using(crate::proofs::Full::full_turns), unfolding(links::specs::Tables::full))]
-pub fn is_full(t: &[u32], n: usize) -> bool
-    requires { (n ≤ 32) × (n ≤ length t.now) }
-    ensures { result ≡ full n t.now }
+pub fn is_full(t: &[u32]) -> bool
+    requires { length t.now ≤ 32 }
+    ensures { result ≡ full (length t.now) t.now }
 {
-    let all = links::low_bits(n);
-    for (u, row) in t[..n].iter().enumerate() {
+    let all = links::low_bits(t.len());
+    // With `all` the check finds no proof: it would take an answer by hand.
+    for (u, row) in t.iter().enumerate() {
         if (*row | (1u32 << u)) & all != all {
             return false;
         }
@@ -25,13 +26,13 @@ pub fn is_full(t: &[u32], n: usize) -> bool
 
 // How many ordered pairs of different boards are not marked: of each row the boards that it lacks, but for its own.
 #[tactic(auto, using(crate::proofs::Full::unmarked_turns), unfolding(links::specs::Tables::unmarked))]
-pub fn unmarked(t: &[u32], n: usize) -> u32
-    requires { (n ≤ 32) × (n ≤ length t.now) }
-    ensures { result ≡ unmarked n t.now }
+pub fn unmarked(t: &[u32]) -> u32
+    requires { length t.now ≤ 32 }
+    ensures { result ≡ unmarked (length t.now) t.now }
 {
-    let all = links::low_bits(n);
+    let all = links::low_bits(t.len());
     let mut k = 0u32;
-    for (u, row) in t[..n].iter().enumerate() {
+    for (u, row) in t.iter().enumerate() {
         k += (all & !(*row | (1u32 << u))).count_ones();
     }
     k
@@ -42,11 +43,11 @@ pub fn unmarked(t: &[u32], n: usize) -> u32
 // Whether links lead from board 0 to every other. `rest` has the boards whose links were not followed yet; the search ends when it has all
 // boards or has followed the links of all that it has.
 #[tactic(auto, using(crate::proofs::Search::onward_turns))]
-fn reaches_all(t: &[u32], n: usize) -> bool
-    requires { (n ≤ 32) × (n ≤ length t.now) }
-    ensures { result ≡ side_full false n (within n most_links t.now) }
+fn reaches_all(t: &[u32]) -> bool
+    requires { length t.now ≤ 32 }
+    ensures { result ≡ side_full false (length t.now) (within (length t.now) most_links t.now) }
 {
-    let all = links::low_bits(n);
+    let all = links::low_bits(t.len());
     let mut s = 1u32;
     let mut rest = all;
     // No iterator: the set grows on the way.
@@ -73,12 +74,12 @@ fn board_to(s: u32, row: u32, b: Board) -> u32
 
 // The boards of seen, and those that a link leads from to one of them.
 #[tactic(auto, using(std::proofs::lemmas::Grind::common_steps), unfolding(crate::specs::Search::collect))]
-fn backward(t: &[u32], seen: u32, n: usize) -> u32
-    requires { (n ≤ 32) × (n ≤ length t.now) }
-    ensures { result ≡ collect t.now seen n }
+fn backward(t: &[u32], seen: u32) -> u32
+    requires { length t.now ≤ 32 }
+    ensures { result ≡ collect t.now seen (length t.now) }
 {
     let mut s = seen;
-    for (w, row) in t[..n].iter().enumerate() {
+    for (w, row) in t.iter().enumerate() {
         s |= board_to(seen, *row, Board(w));
     }
     s
@@ -86,17 +87,17 @@ fn backward(t: &[u32], seen: u32, n: usize) -> u32
 
 // Whether links lead from every other board to board 0. The search ends when it has all boards or a turn finds no more; 32 turns are enough.
 #[tactic(auto, using(crate::proofs::Search::backward_turns))]
-fn all_reach(t: &[u32], n: usize) -> bool
-    requires { (n ≤ 32) × (n ≤ length t.now) }
-    ensures { result ≡ side_full true n (within n most_links t.now) }
+fn all_reach(t: &[u32]) -> bool
+    requires { length t.now ≤ 32 }
+    ensures { result ≡ side_full true (length t.now) (within (length t.now) most_links t.now) }
 {
-    let all = links::low_bits(n);
+    let all = links::low_bits(t.len());
     let mut s = 1u32;
     for _turn in 0..32usize {
         if s & all == all {
             return true;
         }
-        let next = backward(t, s, n);
+        let next = backward(t, s);
         if next == s {
             return false;
         }
@@ -107,9 +108,9 @@ fn all_reach(t: &[u32], n: usize) -> bool
 
 // Whether links of the table lead from every board to every other: to board 0, and from there on.
 #[tactic(auto, using(crate::proofs::Search::full_first), unfolding(links::specs::Tables::connected))]
-pub fn is_connected(t: &[u32], n: usize) -> bool
-    requires { (n ≤ 32) × (n ≡ length t.now) }
-    ensures { result ≡ connected n t.now }
+pub fn is_connected(t: &[u32]) -> bool
+    requires { length t.now ≤ 32 }
+    ensures { result ≡ connected (length t.now) t.now }
 {
-    reaches_all(t, n) && all_reach(t, n)
+    reaches_all(t) && all_reach(t)
 }

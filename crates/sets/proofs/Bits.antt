@@ -43,10 +43,11 @@ pub any_lent : (n u : ℕ) (half : List ℕ) → u < n → n * n ≤ length half
     → let r = take (u * n + n - u * n) (drop (u * n) half) in any_of (λ v. get_or r v 0) (length r) ≡ any_of (cell n half u) n
 any_lent n u half h l = rw (sym (part_length n (u * n) half (omega (arith, row_le n h)))) (any_ext _ _ n (row_cell n u half))
 
-pub set_lent : (n u some : ℕ) (half : List ℕ) → set_of (λ v. get_or (take (u * n + n - u * n) (drop (u * n) half)) v 0) n some u
-    ≡ set_of (cell n half u) n some u
+pub set_lent : (n u some : ℕ) (half : List ℕ) → u < n → n * n ≤ length half
+    → let r = take (u * n + n - u * n) (drop (u * n) half) in set_of (λ v. get_or r v 0) (length r) some u ≡ set_of (cell n half u) n some u
 unfolding set_of
-set_lent n u some half = ap (λ (x : ℕ). bit_and (bit_or x (2 ^ u)) some) (marks_ext _ _ n (row_cell n u half))
+set_lent n u some half h l =
+    rw (sym (part_length n (u * n) half (omega (arith, row_le n h)))) (ap (λ (x : ℕ). bit_and (bit_or x (2 ^ u)) some) (marks_ext _ _ n (row_cell n u half)))
 
 -- ---- the bits
 

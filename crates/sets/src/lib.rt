@@ -20,12 +20,12 @@ fn mark_of(x: u32, b: Board) -> u32
 
 // The boards at which the row has a time.
 #[tactic(auto, using(std::proofs::lemmas::Grind::common_steps), unfolding(crate::specs::Marks::marks))]
-fn row_marks(row: &[u32], n: usize) -> u32
-    requires { (n ≤ 32) × (n ≤ length row.now) }
-    ensures { result ≡ marks (λ v. get_or row.now v 0) n }
+fn row_marks(row: &[u32]) -> u32
+    requires { length row.now ≤ 32 }
+    ensures { result ≡ marks (λ v. get_or row.now v 0) (length row.now) }
 {
     let mut set = 0u32;
-    for (v, x) in row[..n].iter().enumerate() {
+    for (v, x) in row.iter().enumerate() {
         set |= mark_of(*x, Board(v));
     }
     set
@@ -48,12 +48,12 @@ pub fn some_rows(half: &[u32], n: usize) -> u32
 
 // What a row takes from the later table: the rows of the boards that it reaches, and of the board itself, but for those without a time.
 #[tactic(auto, using(lists::proofs::Many::one_bit), unfolding(crate::specs::Marks::set_of))]
-fn set_of(row: &[u32], n: usize, some: u32, own: Board) -> u32
-    requires { (n ≤ 32) × ((own.0 < 32) × (n ≤ length row.now)) }
-    ensures { result ≡ set_of (λ v. get_or row.now v 0) n some own.0 }
+fn set_of(row: &[u32], some: u32, own: Board) -> u32
+    requires { (length row.now ≤ 32) × (own.0 < 32) }
+    ensures { result ≡ set_of (λ v. get_or row.now v 0) (length row.now) some own.0 }
 {
     let u = own.0;
-    (row_marks(row, n) | (1u32 << u)) & some
+    (row_marks(row) | (1u32 << u)) & some
 }
 
 // The sets of all rows.
@@ -64,7 +64,7 @@ pub fn write(sets: &mut [u32], half: &[u32], n: usize, some: u32)
 {
     for (u, set) in sets.iter_mut().enumerate() {
         let at = u * n;
-        *set = set_of(&half[at..at + n], n, some, Board(u));
+        *set = set_of(&half[at..at + n], some, Board(u));
     }
 }
 

@@ -47,7 +47,8 @@ returns-then-measure-eq3 c =
     let k = sym (size_links c.args.measure c.args.n c.requires.1) in
     let K = kit c.args.measure c.args.n in
     let a = c.args.area.now in
-    simp (add-sub_cancel_left, table_lent K a c.args.l e k, table_lent K a c.args.r e k) at c.joins_full.ensures
+    let long = lent_words ((c.args.l - 1) * c.width-e.result) c.args.n a (lies_links _ _ c.requires.1 e c.requires.4) in
+    simp (add-sub_cancel_left, table_lent K a c.args.l e k, table_lent K a c.args.r e k) at (rw long at c.joins_full.ensures)
     ∙ pass-reach _ _ _ _ _ _ c.if-measure-eq3.true
 
 pub overflow_add-from : goal.overflow_add-from

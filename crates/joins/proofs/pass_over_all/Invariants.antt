@@ -7,4 +7,4 @@ use Rattle.joins.specs.Warshall.{passes, Into}
 use Rattle.joins.proofs.pass_over_all.Given as goal
 
 abbrev pub invariant-loop-w : goal.invariant-loop-w
-invariant-loop-w l = (l.w ≤ l.n) × ((length l.t ≡ l.n) × ((l.t ≡ passes l.n l.initial.t l.w) × Into l.n l.t l.into))
+invariant-loop-w l = (l.w ≤ length l.t) × ((length l.t ≡ length l.initial.t) × ((l.t ≡ passes (length l.t) l.initial.t l.w) × Into (length l.t) l.t l.into))

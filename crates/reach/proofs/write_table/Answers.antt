@@ -10,7 +10,7 @@ loop-pick-init c = rw c.into_iter-pick-iterator.ensures.into_iter_gives (
   c.chunks_exact-pick-items.ensures.size,
   (
     c.close_over.auto.out ∙ sym c.requires.2,
-    (1, rw c.chunks_exact-pick-items.ensures.rest (reached_first c.requires.3 c.close_over.ensures)),
+    (1, rw c.chunks_exact-pick-items.ensures.rest (reached_first c.args.lent.now.room c.requires.3 c.close_over.ensures)),
   ),
 )
 

@@ -6,4 +6,5 @@ use Rattle.sets.proofs.write.Goals as goal
 
 pub loop-u-preserved : goal.loop-u-preserved
 loop-u-preserved c =
-    made_turn c.loop-u.invariant (omega (arith, c.loop-u-test.true)) (c.set_of.ensures ∙ set_lent c.args.n c.loop-u.u c.args.some c.args.half.now)
+    made_turn c.loop-u.invariant (omega (arith, c.loop-u-test.true))
+    (c.set_of.ensures ∙ set_lent c.args.n c.loop-u.u c.args.some c.args.half.now (omega (arith, c.loop-u-test.true)) c.requires.1.1)
