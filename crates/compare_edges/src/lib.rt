@@ -3,7 +3,7 @@
 
 use compare_cases::{LINKS, MARK, fill_by_turns, is_marked};
 use compare_rows::{
-    Edge, OPEN_EDGES, READ_EDGES, ReadEdge, TABLE_EDGES, WHOLE_EDGES, Whole, put_own,
+    Edge, OPEN_EDGES, READ_EDGES, ReadEdge, RunSettings, TABLE_EDGES, WHOLE_EDGES, put_own,
 };
 use compare_tallies::{Call, Case, Group, Outcome, Tally};
 use model::Refusal;
@@ -35,7 +35,7 @@ fn run<S: Copy, F: Fn(S, &[u32], &mut [u32]) -> Outcome>(
 
 // ---- the calls: their counts, and yes or no, left out
 
-fn whole(settings: Whole, words: &[u32], area: &mut [u32]) -> Outcome {
+fn whole(settings: RunSettings, words: &[u32], area: &mut [u32]) -> Outcome {
     let answer = calls::whole(settings.boards, settings.measure, words, area);
     answer.length.err().into()
 }

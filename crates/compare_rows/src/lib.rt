@@ -30,12 +30,17 @@ pub fn put_own(words: &mut [u32], own: Option<(usize, u32)>) {
     }
 }
 
-// In each table a row stands in one line: the fields in their order.
+// A table: a line that names the columns, then each row in a line. The first column may be a group of columns.
+macro_rules! rows {
+    ($row:ident $fields:tt; $($values:tt,)*) => { [$(row!($row $fields $values),)*] };
+}
 
-// Rows whose one setting is the number of boards.
-macro_rules! edges {
-    ($(($boards:expr, $lent:expr, $own:expr, $room:expr, $refusal:expr),)*) => {
-        [$(Edge { settings: $boards, lent: $lent, own: $own, room: $room, refusal: $refusal },)*]
+macro_rules! row {
+    ($row:ident { $($field:ident),* } ($($value:expr),*)) => {
+        $row { $($field: $value),* }
+    };
+    ($row:ident { $first:ident: $group:ident $columns:tt, $($field:ident),* } ($values:tt, $($value:expr),*)) => {
+        $row { $first: row!($group $columns $values), $($field: $value),* }
     };
 }
 
@@ -43,76 +48,66 @@ macro_rules! edges {
 
 // Its settings: there is no limit.
 #[derive(Clone, Copy)]
-pub struct Whole {
+pub struct RunSettings {
     pub boards: usize,
     pub measure: usize,
 }
 
-macro_rules! whole_edges {
-    ($(($boards:expr, $measure:expr, $lent:expr, $own:expr, $room:expr, $refusal:expr),)*) => {
-        [$(Edge {
-            settings: Whole { boards: $boards, measure: $measure },
-            lent: $lent,
-            own: $own,
-            room: $room,
-            refusal: $refusal,
-        },)*]
-    };
-}
-
 // The words lent are 2 and 1 by turns, both links of two boards, but for the row's own.
-pub static WHOLE_EDGES: &[Edge<Whole>] = &whole_edges![
+pub static WHOLE_EDGES: &[Edge<RunSettings>] = &rows![
+    Edge { settings: RunSettings { boards, measure }, lent, own, room, refusal };
     // an area exact to the word, and one word less
-    (2, 3, 2, None, 10, None),
-    (2, 3, 2, None, 9, Some(Room)),
-    (2, 4, 2, None, 40, None),
-    (2, 4, 2, None, 39, Some(Room)),
-    (32, 3, 32, None, 160, Some(NoLength)),
-    (32, 3, 32, None, 159, Some(Room)),
-    (32, 4, 32, None, 10240, Some(NoLength)),
-    (32, 4, 32, None, 10239, Some(Room)),
-    (2, 3, 8192, None, 8200, None),
-    (2, 3, 8192, None, 8199, Some(Room)),
+    ((2, 3), 2, None, 10, None),
+    ((2, 3), 2, None, 9, Some(Room)),
+    ((2, 4), 2, None, 40, None),
+    ((2, 4), 2, None, 39, Some(Room)),
+    ((32, 3), 32, None, 160, Some(NoLength)),
+    ((32, 3), 32, None, 159, Some(Room)),
+    ((32, 4), 32, None, 10240, Some(NoLength)),
+    ((32, 4), 32, None, 10239, Some(Room)),
+    ((2, 3), 8192, None, 8200, None),
+    ((2, 3), 8192, None, 8199, Some(Room)),
     // boards, measures, picks
-    (1, 3, 1, None, 20000, Some(Boards)),
-    (33, 3, 33, None, 20000, Some(Boards)),
-    (2, 0, 2, None, 40, Some(Measure)),
-    (2, 5, 2, None, 40, Some(Measure)),
-    (2, 3, 8194, None, 8202, Some(Picks)),
-    (2, 3, 1, None, 40, Some(Shape)),
-    (2, 3, 3, None, 40, Some(Shape)),
-    (2, 3, 0, None, 40, Some(NoPick)),
+    ((1, 3), 1, None, 20000, Some(Boards)),
+    ((33, 3), 33, None, 20000, Some(Boards)),
+    ((2, 0), 2, None, 40, Some(Measure)),
+    ((2, 5), 2, None, 40, Some(Measure)),
+    ((2, 3), 8194, None, 8202, Some(Picks)),
+    ((2, 3), 1, None, 40, Some(Shape)),
+    ((2, 3), 3, None, 40, Some(Shape)),
+    ((2, 3), 0, None, 40, Some(NoPick)),
     // a board's own bit
-    (2, 1, 2, Some((0, 1)), 10, Some(Forbidden)),
-    (2, 2, 2, Some((0, 3)), 10, Some(Forbidden)),
-    (2, 3, 8192, Some((8191, 2)), 8200, Some(Forbidden)),
-    (2, 4, 2, Some((1, 3)), 40, Some(Forbidden)),
-    (32, 3, 32, Some((31, 2147483648)), 160, Some(Forbidden)),
+    ((2, 1), 2, Some((0, 1)), 10, Some(Forbidden)),
+    ((2, 2), 2, Some((0, 3)), 10, Some(Forbidden)),
+    ((2, 3), 8192, Some((8191, 2)), 8200, Some(Forbidden)),
+    ((2, 4), 2, Some((1, 3)), 40, Some(Forbidden)),
+    ((32, 3), 32, Some((31, 2147483648)), 160, Some(Forbidden)),
     // a bit of a board n or above
-    (2, 1, 2, Some((0, 4)), 10, Some(Forbidden)),
-    (2, 2, 2, Some((1, 5)), 10, Some(Forbidden)),
-    (2, 3, 2, Some((0, 6)), 10, Some(Forbidden)),
-    (2, 4, 2, Some((0, 2147483650)), 40, Some(Forbidden)),
-    (31, 3, 31, Some((0, 2147483650)), 155, Some(Forbidden)),
-    (32, 3, 32, Some((0, 2147483650)), 160, Some(NoLength)),
+    ((2, 1), 2, Some((0, 4)), 10, Some(Forbidden)),
+    ((2, 2), 2, Some((1, 5)), 10, Some(Forbidden)),
+    ((2, 3), 2, Some((0, 6)), 10, Some(Forbidden)),
+    ((2, 4), 2, Some((0, 2147483650)), 40, Some(Forbidden)),
+    ((31, 3), 31, Some((0, 2147483650)), 155, Some(Forbidden)),
+    ((32, 3), 32, Some((0, 2147483650)), 160, Some(NoLength)),
     // two causes
-    (1, 0, 1, None, 40, Some(Boards)),
-    (33, 3, 34, None, 40, Some(Boards)),
-    (2, 5, 3, None, 40, Some(Measure)),
-    (2, 0, 0, None, 40, Some(Measure)),
-    (2, 3, 8195, None, 20000, Some(Shape)),
-    (2, 3, 3, Some((0, 1)), 0, Some(Shape)),
-    (2, 3, 0, None, 0, Some(NoPick)),
-    (2, 3, 8194, None, 0, Some(Picks)),
-    (2, 3, 8194, Some((0, 1)), 20000, Some(Picks)),
-    (2, 3, 2, Some((0, 1)), 9, Some(Room)),
-    (3, 3, 3, Some((0, 1)), 15, Some(Forbidden)),
+    ((1, 0), 1, None, 40, Some(Boards)),
+    ((33, 3), 34, None, 40, Some(Boards)),
+    ((2, 5), 3, None, 40, Some(Measure)),
+    ((2, 0), 0, None, 40, Some(Measure)),
+    ((2, 3), 8195, None, 20000, Some(Shape)),
+    ((2, 3), 3, Some((0, 1)), 0, Some(Shape)),
+    ((2, 3), 0, None, 0, Some(NoPick)),
+    ((2, 3), 8194, None, 0, Some(Picks)),
+    ((2, 3), 8194, Some((0, 1)), 20000, Some(Picks)),
+    ((2, 3), 2, Some((0, 1)), 9, Some(Room)),
+    ((3, 3), 3, Some((0, 1)), 15, Some(Forbidden)),
 ];
 
 // ---- the table of reach
 
 // The words lent are as for a whole run.
-pub static TABLE_EDGES: &[Edge<usize>] = &edges![
+pub static TABLE_EDGES: &[Edge<usize>] = &rows![
+    Edge { settings, lent, own, room, refusal };
     // an output exact to the word, and one word less
     (2, 2, None, 2, None),
     (2, 2, None, 1, Some(Room)),
@@ -146,62 +141,51 @@ pub static TABLE_EDGES: &[Edge<usize>] = &edges![
 
 // ---- opening
 
-macro_rules! open_edges {
-    ($(($boards:expr, $measure:expr, $limit:expr, $lent:expr, $own:expr, $room:expr, $refusal:expr),)*) => {
-        [$(Edge {
-            settings: Settings { boards: $boards, measure: $measure, limit: $limit },
-            lent: $lent,
-            own: $own,
-            room: $room,
-            refusal: $refusal,
-        },)*]
-    };
-}
-
 // The words lent are a list: 0, but for the row's own.
-pub static OPEN_EDGES: &[Edge<Settings>] = &open_edges![
+pub static OPEN_EDGES: &[Edge<Settings>] = &rows![
+    Edge { settings: Settings { boards, measure, limit }, lent, own, room, refusal };
     // an area exact to the word, and one word less
-    (2, 3, 1, 2, None, 10, None),
-    (2, 3, 1, 2, None, 9, Some(Room)),
-    (32, 4, 1, 2, None, 10240, None),
-    (32, 4, 1, 2, None, 10239, Some(Room)),
-    (2, 3, 4096, 2, None, 8200, None),
-    (2, 3, 4096, 2, None, 8199, Some(Room)),
+    ((2, 3, 1), 2, None, 10, None),
+    ((2, 3, 1), 2, None, 9, Some(Room)),
+    ((32, 4, 1), 2, None, 10240, None),
+    ((32, 4, 1), 2, None, 10239, Some(Room)),
+    ((2, 3, 4096), 2, None, 8200, None),
+    ((2, 3, 4096), 2, None, 8199, Some(Room)),
     // boards, measures, limits
-    (1, 3, 1, 2, None, 20000, Some(Boards)),
-    (33, 3, 1, 2, None, 20000, Some(Boards)),
-    (2, 0, 1, 2, None, 40, Some(Measure)),
-    (2, 5, 1, 2, None, 40, Some(Measure)),
-    (2, 3, 0, 2, None, 20000, Some(Picks)),
-    (2, 3, 4097, 2, None, 20000, Some(Picks)),
+    ((1, 3, 1), 2, None, 20000, Some(Boards)),
+    ((33, 3, 1), 2, None, 20000, Some(Boards)),
+    ((2, 0, 1), 2, None, 40, Some(Measure)),
+    ((2, 5, 1), 2, None, 40, Some(Measure)),
+    ((2, 3, 0), 2, None, 20000, Some(Picks)),
+    ((2, 3, 4097), 2, None, 20000, Some(Picks)),
     // a list: it may hold no link, and has n words
-    (2, 2, 1, 2, None, 10, None),
-    (2, 2, 1, 2, Some((0, 2)), 10, None),
-    (32, 2, 1, 32, Some((0, 4294967294)), 160, None),
-    (2, 2, 1, 0, None, 10, Some(Shape)),
-    (2, 2, 1, 1, Some((0, 2)), 10, Some(Shape)),
-    (2, 2, 1, 3, Some((0, 2)), 10, Some(Shape)),
-    (3, 2, 1, 2, None, 100, Some(Shape)),
+    ((2, 2, 1), 2, None, 10, None),
+    ((2, 2, 1), 2, Some((0, 2)), 10, None),
+    ((32, 2, 1), 32, Some((0, 4294967294)), 160, None),
+    ((2, 2, 1), 0, None, 10, Some(Shape)),
+    ((2, 2, 1), 1, Some((0, 2)), 10, Some(Shape)),
+    ((2, 2, 1), 3, Some((0, 2)), 10, Some(Shape)),
+    ((3, 2, 1), 2, None, 100, Some(Shape)),
     // a board's own bit, a bit of a board n or above
-    (2, 2, 1, 2, Some((0, 1)), 10, Some(Forbidden)),
-    (32, 2, 1, 32, Some((0, 1)), 160, Some(Forbidden)),
-    (2, 2, 1, 2, Some((0, 4)), 10, Some(Forbidden)),
-    (31, 2, 1, 31, Some((0, 2147483648)), 155, Some(Forbidden)),
+    ((2, 2, 1), 2, Some((0, 1)), 10, Some(Forbidden)),
+    ((32, 2, 1), 32, Some((0, 1)), 160, Some(Forbidden)),
+    ((2, 2, 1), 2, Some((0, 4)), 10, Some(Forbidden)),
+    ((31, 2, 1), 31, Some((0, 2147483648)), 155, Some(Forbidden)),
     // the other measures read no list
-    (2, 1, 1, 3, Some((0, 1)), 10, None),
-    (2, 3, 1, 0, None, 10, None),
-    (2, 4, 1, 2, Some((0, 7)), 40, None),
+    ((2, 1, 1), 3, Some((0, 1)), 10, None),
+    ((2, 3, 1), 0, None, 10, None),
+    ((2, 4, 1), 2, Some((0, 7)), 40, None),
     // two causes
-    (1, 0, 1, 2, None, 10, Some(Boards)),
-    (33, 2, 0, 2, None, 10, Some(Boards)),
-    (2, 5, 0, 2, None, 10, Some(Measure)),
-    (2, 0, 1, 2, None, 0, Some(Measure)),
-    (2, 2, 0, 3, None, 10, Some(Picks)),
-    (2, 2, 4097, 2, Some((0, 1)), 10, Some(Picks)),
-    (2, 3, 4097, 2, None, 0, Some(Picks)),
-    (2, 2, 1, 3, Some((0, 1)), 10, Some(Shape)),
-    (2, 2, 1, 3, None, 9, Some(Shape)),
-    (2, 2, 1, 2, Some((0, 1)), 9, Some(Forbidden)),
+    ((1, 0, 1), 2, None, 10, Some(Boards)),
+    ((33, 2, 0), 2, None, 10, Some(Boards)),
+    ((2, 5, 0), 2, None, 10, Some(Measure)),
+    ((2, 0, 1), 2, None, 0, Some(Measure)),
+    ((2, 2, 0), 3, None, 10, Some(Picks)),
+    ((2, 2, 4097), 2, Some((0, 1)), 10, Some(Picks)),
+    ((2, 3, 4097), 2, None, 0, Some(Picks)),
+    ((2, 2, 1), 3, Some((0, 1)), 10, Some(Shape)),
+    ((2, 2, 1), 3, None, 9, Some(Shape)),
+    ((2, 2, 1), 2, Some((0, 1)), 9, Some(Forbidden)),
 ];
 
 // ---- reading a file
@@ -215,14 +199,9 @@ pub struct ReadEdge {
     pub refusal: Option<Refusal>,
 }
 
-macro_rules! read_edges {
-    ($(($limit:expr, $lent:expr, $room:expr, $refusal:expr),)*) => {
-        [$(ReadEdge { limit: $limit, lent: $lent, room: $room, refusal: $refusal },)*]
-    };
-}
-
 // Bytes are lent, of 42 02 50 50 45. What a file alone can show is in `compare`.
-pub static READ_EDGES: &[ReadEdge] = &read_edges![
+pub static READ_EDGES: &[ReadEdge] = &rows![
+    ReadEdge { limit, lent, room, refusal };
     // an output exact to the word, and one word less
     (2, 5, 4, None),
     (2, 5, 3, Some(Room)),
@@ -242,7 +221,8 @@ pub static READ_EDGES: &[ReadEdge] = &read_edges![
 // ---- saving a recording
 
 // The words lent are as for a whole run.
-pub static SAVE_EDGES: &[Edge<usize>] = &edges![
+pub static SAVE_EDGES: &[Edge<usize>] = &rows![
+    Edge { settings, lent, own, room, refusal };
     // an output exact to the byte, one byte less, and one that is longer
     (2, 2, None, 10, None),
     (2, 2, None, 9, Some(FileRoom)),
@@ -314,21 +294,8 @@ pub struct PickEdge {
     pub refusal: Option<Refusal>,
 }
 
-macro_rules! pick_edges {
-    ($(($limit:expr, $before:expr, $lacking:expr, $lent:expr, $own:expr, $refusal_listed:expr, $refusal:expr),)*) => {
-        [$(PickEdge {
-            limit: $limit,
-            before: $before,
-            lacking: $lacking,
-            lent: $lent,
-            own: $own,
-            refusal_listed: $refusal_listed,
-            refusal: $refusal,
-        },)*]
-    };
-}
-
-pub static PICK_EDGES: &[PickEdge] = &pick_edges![
+pub static PICK_EDGES: &[PickEdge] = &rows![
+    PickEdge { limit, before, lacking, lent, own, refusal_listed, refusal };
     // taken
     (2, 0, 0, 3, None, None, None),
     (2, 1, 0, 3, None, None, None),
@@ -428,13 +395,8 @@ pub struct PlaceEdge {
     pub refusal_length: Option<Refusal>,
 }
 
-macro_rules! place_edges {
-    ($(($place:expr, $field:expr, $lent:expr, $refusal_pick:expr, $refusal_length:expr),)*) => {
-        [$(PlaceEdge { place: $place, field: $field, lent: $lent, refusal_pick: $refusal_pick, refusal_length: $refusal_length },)*]
-    };
-}
-
-pub static PLACE_EDGES: &[PlaceEdge] = &place_edges![
+pub static PLACE_EDGES: &[PlaceEdge] = &rows![
+    PlaceEdge { place, field, lent, refusal_pick, refusal_length };
     // as they were
     (FRESH, Field::Taken(0), 3, None, Some(NoPick)),
     (WALKED, Field::Taken(4), 3, None, None),
