@@ -17,6 +17,18 @@ pub fn width(measure: usize, n: usize) -> usize
     measures::size(measure, n)
 }
 
+// The table of part d, as it stands.
+pub fn table(area: &[u32], measure: usize, n: usize, d: usize) -> &[u32]
+    requires { (n ≤ 32) × Has (width_of measure n) (length area.now) d }
+    ensures table { result.now ≡ table_at (kit measure n) area.now d }
+    ensures size { length result.now ≡ size_of measure n }
+{
+    let e = width(measure, n);
+    let k = measures::size(measure, n);
+    let at = (d - 1) * e;
+    &area[at..at + k]
+}
+
 // ---- one part written
 
 // The words become the table of part d.
@@ -165,11 +177,8 @@ pub fn passes_part(
     requires { (n ≤ 32) × (Has (width_of measure n) (length area.now) footprint × Has (width_of measure n) (length area.now) window) }
     ensures { result ≡ pass_of turn measure n (table_at (kit measure n) area.now footprint) (table_at (kit measure n) area.now window) }
 {
-    let e = width(measure, n);
-    let k = measures::size(measure, n);
-    let from = (footprint - 1) * e;
-    let at = (window - 1) * e;
-    measures::passes(&area[from..from + k], &area[at..at + k], measure, n, turn)
+    let list = table(area, measure, n, footprint);
+    measures::passes(list, table(area, measure, n, window), measure, n, turn)
 }
 
 // Whether the composition of the tables of parts l and r would pass under measures 2 and 3: nothing is written.
@@ -186,14 +195,12 @@ pub fn joined_passes(
     ensures { result ≡ (kit measure n).pass (table_at (kit measure n) area.now footprint)
         (join_of measure n (table_at (kit measure n) area.now l) (table_at (kit measure n) area.now r)) }
 {
-    let e = width(measure, n);
-    let from = (footprint - 1) * e;
-    let at = (l - 1) * e;
-    let to = (r - 1) * e;
+    let earlier = table(area, measure, n, l);
+    let later = table(area, measure, n, r);
     if measure == 3 {
-        return joins::joins_full(&area[at..at + n], &area[to..to + n]);
+        return joins::joins_full(earlier, later);
     }
-    links::is_union(&area[from..from + n], &area[at..at + n], &area[to..to + n])
+    links::is_union(table(area, measure, n, footprint), earlier, later)
 }
 
 // ---- many parts at once

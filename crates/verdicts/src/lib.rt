@@ -98,10 +98,9 @@ fn is_listed(area: &[u32], words: &[u32], settings: Settings) -> bool
         × (needed settings.measure settings.boards settings.limit ≤ length area.now) }
     ensures { result ≡ listed settings.boards (table_at (kit settings.measure settings.boards) area.now (settings.limit + 3)) words.now }
 {
-    let n = settings.boards;
-    let e = area::width(settings.measure, n);
-    let at = (settings.limit + 2) * e;
-    checks::is_listed(&area[at..at + n], words)
+    let limit = settings.limit;
+    let list = area::table(area, settings.measure, settings.boards, limit + 3);
+    checks::is_listed(list, words)
 }
 
 // The causes of a pick, in their order: 16, 7, 10, 5, 4, 6.
