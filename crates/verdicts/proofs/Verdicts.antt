@@ -2,20 +2,18 @@
 use mathlib.Core.Path.{◌≡◌, refl, sym, ap, ◌∙◌, subst}
 use mathlib.Core.Bool.{Bool, true, false, ◌&&◌, not}
 use Prim.Native.Nat.{ℕ, ◌+◌, ◌-◌, ◌*◌, ◌/◌, ◌%◌, ◌≤◌, ◌<◌}
-use native.Mathlib.Nat.{mul-le-mul, add-sub_cancel_left, div-add-mod'}
+use native.Mathlib.Nat.{mul-le-mul, div-add-mod'}
 use native.Mathlib.Omega.{arith}
 use mathlib.Core.List.{List}
 use lib.Dec.{T, eqb, eqb→eq, leb, leb→le, le→leb, ltb, ltb→lt, lt→ltb}
-use lib.ListN.{length, take, drop}
+use lib.ListN.{length}
 use Rattle.model.specs.Causes.{NoneHolds}
 use Rattle.model.proofs.Causes.{none_holds, holds_by, not_of_true, between_says, in-range}
 use Rattle.model.proofs.Logic.{tr, T→≡, F→≡, eq_refl}
 use Rattle.checks.specs.Checks.{clean, listed}
 use Rattle.checks.specs.Lent.{clean_picks}
 use Rattle.measures.specs.Kit.{kit}
-use Rattle.measures.proofs.Words.{size_links}
 use Rattle.area.specs.Parts.{width_of, Has, table_at}
-use Rattle.area.proofs.Stored.{table_lent}
 use Rattle.area.proofs.Laws.{has}
 use Rattle.area.proofs.Lent.{lies_links, width_most}
 use Rattle.place.specs.declared.Place.{Place}
@@ -47,13 +45,6 @@ pub third_room : (measure n limit words : ℕ) {e : ℕ} → measure ≡ 2 → e
 third_room measure n limit words {e} two q h =
     let i : limit + 3 - 1 ≡ limit + 2 = omega arith in
     rw i at (lies_links measure n (λ x. omega arith) q (third_part measure n limit words h))
-
-pub third_lent : (measure n limit : ℕ) (a : List ℕ) {e : ℕ} → measure ≡ 2 → e ≡ width_of measure n
-    → take ((limit + 2) * e + n - (limit + 2) * e) (drop ((limit + 2) * e) a) ≡ table_at (kit measure n) a (limit + 3)
-third_lent measure n limit a {e} two q =
-    let i : limit + 2 ≡ limit + 3 - 1 = omega arith in
-    ap (λ (x : ℕ). take x (drop ((limit + 2) * e) a)) (add-sub_cancel_left ((limit + 2) * e) n) ∙ ap (λ (x : ℕ). take n (drop (x * e) a)) i
-    ∙ table_lent (kit measure n) a (limit + 3) q (sym (size_links measure n (λ x. omega arith)))
 
 pub not_short : (x y : ℕ) → ltb x y ≡ false → y ≤ x
 not_short x y e = let g : x < y → ⊥ = λ h. tr e (lt→ltb x y h) in omega arith
