@@ -8,7 +8,7 @@ use Prim.Native.Nat.{ℕ, zero, suc, ◌-◌, ◌^◌, ◌≤◌, ◌<◌}
 use native.Mathlib.Nat.{not-suc-le-zero, le_of_suc-le-suc, eq-or-lt_of_le, lt_of_lt_of_le, le_refl}
 use native.Mathlib.Omega.{arith}
 use lib.Dec.{T, eqb}
-use lib.ListN.{length, get_or}
+use lib.ListN.{get_or}
 use lib.Pow.{pow_pos}
 use lib.Seq.{ext_get_or}
 use Rattle.model.specs.Recording.{bit, link}

@@ -1,19 +1,20 @@
 -- What one turn of the loops over columns and passes adds. Assumes nothing.
-use mathlib.Core.Path.{◌≡◌, refl, ap, ◌∙◌, sym}
+use mathlib.Core.Path.{◌≡◌, refl, ap, ap₂, ◌∙◌, sym}
 use mathlib.Core.Bool.{Bool, true, false}
 use mathlib.Core.List.{List}
-use Prim.Native.Nat.{ℕ, suc, ◌+◌}
-use native.Mathlib.Numerals.{add-one}
+use Prim.Native.Nat.{ℕ, zero, suc, ◌+◌, ◌-◌, ◌/◌, ◌^◌, ◌≤◌, ◌<◌}
+use native.Mathlib.Nat.{add-zero, add-suc, add-sub_cancel_left, le_refl}
 use native.Mathlib.Omega.{arith}
 use lib.Bits.{bit_or, or_zero_r}
-use lib.ListN.{length, get_or}
-use lib.Seq.{ext_get_or}
+use lib.ListN.{length, take, drop, length-drop, get_or}
+use lib.Pow.{shr-shr}
+use lib.Seq.{ext_get_or, get_or-take, get_or-drop, length-take-le}
 use Rattle.model.specs.Recording.{bit, link}
 use Rattle.model.proofs.Bits.{or_none}
-use Rattle.lists.specs.Tab.{tab, kept}
+use Rattle.lists.specs.Tab.{tab, kept, any_of}
 use Rattle.lists.proofs.Tab.{tab_ext, length-tab, get_or-tab, made_all}
 use Rattle.links.specs.Tables.{either_row, union, without, gathered, through_row, compose_row, compose}
-use Rattle.joins.specs.Columns.{column_row, four_row}
+use Rattle.joins.specs.Columns.{column_row, columns_row}
 use Rattle.joins.specs.Warshall.{pass, clear_row}
 
 -- before the first column the rows are those of the union
@@ -21,12 +22,32 @@ pub through_none : (s t : List ℕ) (n : ℕ) → union n s t ≡ tab (through_r
 unfolding union through_row gathered
 through_none s t n = tab_ext (either_row s t) (through_row s t 0) n (λ u h. refl)
 
--- a column adds its board
-pub through_next : (s t : List ℕ) (n k : ℕ) → tab (column_row (tab (through_row s t k) n) s (get_or t k 0) k) n ≡ tab (through_row s t (k + 1)) n
-unfolding through_row column_row gathered link
-through_next s t n k =
-    rw (add-one k) (tab_ext (column_row (tab (through_row s t k) n) s (get_or t k 0) k) (through_row s t (suc k)) n
-    (λ u h. ap (λ (x : ℕ). bit_or x (kept (bit (get_or s u 0) k) (get_or t k 0))) (get_or-tab (through_row s t k) n u h)))
+-- columns add their boards
+gathered_on : (x row k m : ℕ) (t : List ℕ) → gathered (gathered x row t k) (row / 2 ^ k) (drop k t) m ≡ gathered x row t (k + m)
+unfolding gathered bit
+gathered_on x row k zero t = rw add-zero
+gathered_on x row k (suc m) t =
+    rw add-suc (ap₂ bit_or (gathered_on x row k m t) (simp (shr-shr row k m, get_or-drop k t m 0)))
+
+pub through_next : (s t : List ℕ) (n k m : ℕ) → tab (columns_row (tab (through_row s t k) n) s t k m) n ≡ tab (through_row s t (k + m)) n
+unfolding through_row columns_row
+through_next s t n k m =
+    tab_ext (columns_row (tab (through_row s t k) n) s t k m) (through_row s t (k + m)) n
+    (λ u h. rw (get_or-tab (through_row s t k) n u h) (gathered_on (either_row s t u) (get_or s u 0) k m t))
+
+-- the rows as they are lent
+lent_gathered : (x l k m : ℕ) (r t : List ℕ) → ((i : ℕ) → i < m → get_or r i 0 ≡ get_or t i 0) → k ≤ m → gathered x l r k ≡ gathered x l t k
+unfolding gathered
+lent_gathered x l zero m r t f h = refl
+lent_gathered x l (suc k) m r t f h = ap₂ (λ (y z : ℕ). bit_or y (kept (bit l k) z)) (lent_gathered x l k m r t f (omega arith)) (f k (omega arith))
+
+lent_length : (w m : ℕ) (t : List ℕ) → w + m ≤ length t → length (take (w + m - w) (drop w t)) ≡ m
+lent_length w m t h = rw add-sub_cancel_left (length-take-le m (drop w t) (omega (arith, length-drop w t)))
+
+pub lent_columns : (x l w m : ℕ) (t : List ℕ) → w + m ≤ length t
+    → let r = take (w + m - w) (drop w t) in gathered x l r (length r) ≡ gathered x l (drop w t) m
+lent_columns x l w m t h =
+    rw (lent_length w m t h) (lent_gathered x l m m (take (w + m - w) (drop w t)) (drop w t) (λ i b. rw add-sub_cancel_left (get_or-take m (drop w t) i 0 b)) (le_refl m))
 
 kept_none : (b : Bool) {x : ℕ} → x ≡ 0 → kept b x ≡ 0
 kept_none true z = z
@@ -40,32 +61,22 @@ no_column out s row w n z e =
     ext_get_or 0 out (tab (column_row out s row w) n) (sym (l ∙ e))
     (λ u h. sym (get_or-tab (column_row out s row w) n u (omega arith) ∙ ap (bit_or (get_or out u 0)) (kept_none (link s u w) z) ∙ or_zero_r (get_or out u 0)))
 
--- four columns add their boards
-pub through_four : (s t : List ℕ) (n k : ℕ) → tab (four_row (tab (through_row s t k) n) s t k) n ≡ tab (through_row s t (k + 4)) n
-unfolding through_row four_row gathered link
-through_four s t n k =
-    let e : k + 4 ≡ suc (suc (suc (suc k))) = omega arith in
-    let e3 : k + 3 ≡ suc (suc (suc k)) = omega arith in
-    let e2 : k + 2 ≡ suc (suc k) = omega arith in
-    let e1 : k + 1 ≡ suc k = omega arith in
-    tab_ext (four_row (tab (through_row s t k) n) s t k) (through_row s t (k + 4)) n (λ u h. rw (get_or-tab (through_row s t k) n u h, e, e3, e2, e1))
+-- rows without links add nothing
+gathered_none : (x l k : ℕ) (r : List ℕ) → any_of (λ i. get_or r i 0) k ≡ 0 → gathered x l r k ≡ x
+unfolding gathered any_of
+gathered_none x l zero r z = refl
+gathered_none x l (suc k) r z =
+    let o = or_none (any_of (λ i. get_or r i 0) k) (get_or r k 0) z in
+    ap₂ bit_or (gathered_none x l k r o.0) (kept_none (bit l k) o.1) ∙ or_zero_r x
 
--- where they have no links they add nothing
-pub no_four : (out s t : List ℕ) (w n : ℕ) → bit_or (bit_or (bit_or (get_or t w 0) (get_or t (w + 1) 0)) (get_or t (w + 2) 0)) (get_or t (w + 3) 0) ≡ 0
-    → n ≡ length out
-    → out ≡ tab (four_row out s t w) n
-unfolding four_row
-no_four out s t w n z e =
-    let l = length-tab (four_row out s t w) n in
-    let d = or_none _ (get_or t (w + 3) 0) z in
-    let c = or_none _ (get_or t (w + 2) 0) d.0 in
-    let b = or_none (get_or t w 0) (get_or t (w + 1) 0) c.0 in
-    ext_get_or 0 out (tab (four_row out s t w) n) (sym (l ∙ e))
-    (λ u h. sym (get_or-tab (four_row out s t w) n u (omega arith)
-    ∙ same (same (same (same refl (link s u w) b.0) (link s u (w + 1)) b.1) (link s u (w + 2)) c.1) (link s u (w + 3)) d.1))
-  where
-    same : {x y : ℕ} → x ≡ y → (b : Bool) {r : ℕ} → r ≡ 0 → bit_or x (kept b r) ≡ y
-    same {x} e b z = ap (bit_or x) (kept_none b z) ∙ or_zero_r x ∙ e
+pub no_columns : (out s t : List ℕ) (w m n : ℕ) → w + m ≤ length t → (let r = take (w + m - w) (drop w t) in any_of (λ i. get_or r i 0) (length r) ≡ 0)
+    → n ≡ length out → out ≡ tab (columns_row out s t w m) n
+unfolding columns_row
+no_columns out s t w m n h z e =
+    let f = columns_row out s t w m in
+    ext_get_or 0 out (tab f n) (sym (length-tab f n ∙ e))
+    (λ u b. sym (get_or-tab f n u (omega arith) ∙ sym (lent_columns (get_or out u 0) (get_or s u 0 / 2 ^ w) w m t h)
+    ∙ gathered_none _ _ _ (take (w + m - w) (drop w t)) z))
 
 -- own bits cleared after the last column
 pub clear_through : (s t : List ℕ) (n : ℕ) → tab (clear_row (tab (through_row s t n) n)) n ≡ compose n s t
@@ -80,6 +91,6 @@ pass_is n t k = refl
 
 pub ruleset columns = (made_all, no_column, pass_is)
 
-pub ruleset fours = (made_all, no_four)
+pub ruleset some_columns = (made_all, lent_columns, no_columns)
 
-pub ruleset column_turns = (through_none, through_next, through_four)
+pub ruleset column_turns = (through_none, through_next)

@@ -5,8 +5,8 @@
 ghost use Rattle.std.specs.Prelude.{◌≡◌, [], ◌+◌, ◌*◌, ◌/◌, ◌%◌, ◌^◌, ◌≤◌, ◌<◌, length, get_or};
 ghost use Rattle.model.specs.Journey.{most_links};
 ghost use Rattle.lists.specs.Tab.{tab, zeros, splice, every};
-ghost use Rattle.links.specs.Tables.{union, through_row, compose, within, full};
-ghost use Rattle.joins.specs.Columns.{column_row, four_row};
+ghost use Rattle.links.specs.Tables.{union, gathered, through_row, compose, within, full};
+ghost use Rattle.joins.specs.Columns.{column_row, columns_row};
 ghost use Rattle.joins.specs.LookUps.{unions_of, tables_from, looked_word, looked_row, looked_full};
 ghost use Rattle.joins.specs.Warshall.{pass, passes, clear_row, Into};
 
@@ -25,42 +25,33 @@ fn clear_own(t: &mut [u32])
 
 // ---- two parts: the composition of measure 3
 
-// A column: `row`, what board b reaches in the later part, goes to every board that reaches b in the earlier one.
-#[tactic(auto, using(crate::proofs::Rows::columns), unfolding(crate::specs::Columns::column_row, model::specs::Recording::link, model::specs::Recording::bit))]
-fn add_column(out: &mut [u32], left: &[u32], row: u32, b: Board)
-    requires { (b.0 < 32) × (length out.old ≤ length left.now) }
-    ensures { out.new ≡ tab (column_row out.old left.now row b.0) (length out.old) }
+// The word x, united with each row that l has the bit of.
+#[tactic(auto, using(std::proofs::lemmas::Grind::common_steps), unfolding(links::specs::Tables::gathered, model::specs::Recording::bit))]
+fn with_rows(x: u32, l: u32, rows: &[u32]) -> u32
+    requires { length rows.now ≤ 32 }
+    ensures { result ≡ gathered x l rows.now (length rows.now) }
 {
-    if row == 0 {
-        return;
+    let mut all = x;
+    for (k, row) in rows.iter().enumerate() {
+        all |= lists::keep(*row, (l >> k) % 2);
     }
-    let w = b.0;
-    for (u, word) in out.iter_mut().enumerate() {
-        *word |= lists::keep(row, (left[u] >> w) % 2);
-    }
+    all
 }
 
-// The columns of b and the three boards after it: four at once, so that each word of out is read and written once for them.
-#[tactic(auto, using(crate::proofs::Rows::fours), unfolding(crate::specs::Columns::four_row, model::specs::Recording::link, model::specs::Recording::bit))]
-fn add_four(out: &mut [u32], left: &[u32], right: &[u32], b: Board)
-    requires { (b.0 + 4 ≤ 32) × ((length out.old ≤ length left.now) × (b.0 + 4 ≤ length right.now)) }
-    ensures { out.new ≡ tab (four_row out.old left.now right.now b.0) (length out.old) }
+// The columns of N boards from b on: what each of them reaches in the later part goes to every board that reaches it in the earlier one. More than one
+// at once, so that each word of out is read and written once for them.
+#[tactic(auto, using(crate::proofs::Rows::some_columns), unfolding(crate::specs::Columns::columns_row))]
+fn add_some<const N: usize>(out: &mut [u32], left: &[u32], right: &[u32], b: Board)
+    requires { (b.0 < 32) × (b.0 + N ≤ 32) × (length out.old ≤ length left.now) × (b.0 + N ≤ length right.now) }
+    ensures { out.new ≡ tab (columns_row out.old left.now right.now b.0 N) (length out.old) }
 {
     let w = b.0;
-    let first = right[w];
-    let second = right[w + 1];
-    let third = right[w + 2];
-    let fourth = right[w + 3];
-    if first | second | third | fourth == 0 {
+    let rows = &right[w..w + N];
+    if lists::any_of(rows) == 0 {
         return;
     }
     for (u, word) in out.iter_mut().enumerate() {
-        let l = left[u] >> w;
-        *word = *word
-            | lists::keep(first, l % 2)
-            | lists::keep(second, (l >> 1) % 2)
-            | lists::keep(third, (l >> 2) % 2)
-            | lists::keep(fourth, (l >> 3) % 2);
+        *word = with_rows(*word, left[u] >> w, rows);
     }
 }
 
@@ -75,7 +66,7 @@ fn add_fours(out: &mut [u32], left: &[u32], right: &[u32]) -> usize
     let mut w = 0;
     // By hand: a `for` over the fours costs 2 per cent more instructions.
     while w + 4 <= n {
-        add_four(out, left, right, Board(w));
+        add_some::<4>(out, left, right, Board(w));
         w += 4;
     }
     w
@@ -92,7 +83,7 @@ fn add_columns(out: &mut [u32], left: &[u32], right: &[u32])
     let from = add_fours(out, left, right);
     // By number: the rest of a slice would count from 0 again.
     for w in from..n {
-        add_column(out, left, right[w], Board(w));
+        add_some::<1>(out, left, right, Board(w));
     }
 }
 
