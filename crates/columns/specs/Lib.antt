@@ -1,2 +1,3 @@
--- Numbers and dashes as text.
+-- Numbers and dashes as text, and what is promised of them.
 pub mod Text
+pub mod Columns

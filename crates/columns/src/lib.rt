@@ -2,8 +2,7 @@
 // holds would have to be proved all the same.
 #![tactic(auto)]
 
-ghost use Rattle.std.specs.Prelude.{◌++◌, ◌∷◌, [], ◌+◌, ◌≤◌, ◌<◌, length};
-ghost use Rattle.columns.specs.Text.{decimal_of, cell_text, line5, Put};
+ghost use Rattle.std.specs.Prelude.{◌++◌, ◌∷◌, [], ◌+◌, ◌≤◌, length};
 
 // What a column holds: a number, a dash where there is none, or the word `file`.
 #[derive(Clone, Copy, PartialEq, Eq)]
@@ -13,63 +12,63 @@ pub enum Cell {
     File,
 }
 
-// Writes one byte.
-fn put_byte(buf: &mut [u8], at: usize, b: u8) -> usize
-    requires { at < length buf.old }
-    ensures { Put buf.old at (b ∷ []) result buf.new }
-{
-    buf[at] = b;
-    at + 1
+// A buffer, and the place in it of the next byte.
+#[derive(Drop)]
+pub struct Columns<'a> {
+    pub buf: &'a mut [u8],
+    pub at: usize,
+    ghost inside: { at ≤ length buf.now },
 }
 
-// Writes a text, and answers the place behind it.
-pub fn put_text(buf: &mut [u8], at: usize, text: &[u8]) -> usize
-    requires { at + length text.now ≤ length buf.old }
-    ensures { Put buf.old at text.now result buf.new }
-{
-    let end = at + text.len();
-    buf[at..end].copy_from_slice(text);
-    end
-}
+impl Columns<'_> {
+    ghost use Rattle.columns.specs.Text.{decimal_of, cell_text, line5};
+    ghost use Rattle.columns.specs.Columns.{HasRoom, Appends};
 
-// Writes the digits of x, and answers the place behind them.
-fn put_decimal(buf: &mut [u8], at: usize, x: usize) -> usize
-    requires { at + length (decimal_of x) ≤ length buf.old }
-    ensures { Put buf.old at (decimal_of x) result buf.new }
-{
-    let mut digits = itoa::Buffer::new();
-    put_text(buf, at, digits.format(x).as_bytes())
-}
+    // Writes a text.
+    pub fn text(&mut self, text: &[u8])
+        requires { HasRoom self.old (length text.now) }
+        ensures { Appends self.old self.new text.now }
+    {
+        let end = self.at + text.len();
+        self.buf[self.at..end].copy_from_slice(text);
+        self.at = end;
+    }
 
-// Writes a cell and the byte behind it: at most 20 digits, and one.
-pub fn put_cell(buf: &mut [u8], at: usize, cell: Cell, after: u8) -> usize
-    requires { at + 21 ≤ length buf.old }
-    ensures { Put buf.old at (cell_text cell ++ (after ∷ [])) result buf.new × (result ≤ at + 21) }
-{
-    match cell {
-        Cell::Number(x) => {
-            let next = put_decimal(buf, at, x);
-            put_byte(buf, next, after)
-        }
-        Cell::Dash => {
-            let next = put_byte(buf, at, b'-');
-            put_byte(buf, next, after)
-        }
-        Cell::File => {
-            let next = put_text(buf, at, b"file");
-            put_byte(buf, next, after)
+    // Writes what a column holds, at most 20 bytes.
+    #[tactic(auto, using(crate::proofs::Text::decimal_same))]
+    fn held(&mut self, cell: Cell)
+        requires { HasRoom self.old 20 }
+        ensures put { Appends self.old self.new (cell_text cell) }
+        ensures few { self.new.at ≤ self.old.at + 20 }
+    {
+        match cell {
+            Cell::Number(x) => self.text(itoa::Buffer::new().format(x).as_bytes()),
+            Cell::Dash => self.text(b"-"),
+            Cell::File => self.text(b"file"),
         }
     }
-}
 
-// Writes a line of five cells, at most 105 bytes, and answers the place behind it.
-pub fn put_line(buf: &mut [u8], at: usize, a: Cell, b: Cell, c: Cell, d: Cell, e: Cell) -> usize
-    requires { at + 105 ≤ length buf.old }
-    ensures { Put buf.old at (line5 a b c d e) result buf.new × (result ≤ at + 105) }
-{
-    let second = put_cell(buf, at, a, b' ');
-    let third = put_cell(buf, second, b, b' ');
-    let fourth = put_cell(buf, third, c, b' ');
-    let fifth = put_cell(buf, fourth, d, b' ');
-    put_cell(buf, fifth, e, b'\n')
+    // Writes a cell and the byte behind it: at most 20 bytes, and one.
+    #[tactic(auto, using(crate::proofs::Appends::appends_then))]
+    pub fn cell(&mut self, cell: Cell, after: u8)
+        requires { HasRoom self.old 21 }
+        ensures put { Appends self.old self.new (cell_text cell ++ (after ∷ [])) }
+        ensures few { self.new.at ≤ self.old.at + 21 }
+    {
+        self.held(cell);
+        self.text(&[after]);
+    }
+
+    // Writes a line of five cells, at most 105 bytes.
+    pub fn line(&mut self, a: Cell, b: Cell, c: Cell, d: Cell, e: Cell)
+        requires { HasRoom self.old 105 }
+        ensures put { Appends self.old self.new (line5 a b c d e) }
+        ensures few { self.new.at ≤ self.old.at + 105 }
+    {
+        self.cell(a, b' ');
+        self.cell(b, b' ');
+        self.cell(c, b' ');
+        self.cell(d, b' ');
+        self.cell(e, b'\n');
+    }
 }

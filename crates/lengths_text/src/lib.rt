@@ -4,11 +4,12 @@
 ghost use Rattle.std.specs.Prelude.{◌≡◌, ◌+◌, ◌*◌, ◌≤◌, length, take, drop};
 ghost use Rattle.lists.specs.Tab.{zeros};
 ghost use Rattle.calls.specs.Answers.{answer_says};
-ghost use Rattle.columns.specs.Text.{Put};
-ghost use Rattle.lengths_text.specs.LengthsText.{row_of, line_of, lines_of, text_of};
+ghost use Rattle.columns.specs.Columns.{HasRoom, Appends};
+ghost use Rattle.recording.specs.Answers.{read_says, read_leaves};
+ghost use Rattle.lengths_text.specs.LengthsText.{row_of, line_of, lines_of, under_header, text_of};
 
 use calls::Answer;
-use columns::Cell;
+use columns::{Cell, Columns};
 use model::Refusal;
 use recording::Reading;
 
@@ -28,38 +29,57 @@ fn answer_of(n: usize, picks: usize, words: &[u32], measure: usize) -> Answer
     calls::whole(n, measure, words, &mut area)
 }
 
-// Writes a measure's line, and answers the place behind it.
+// Writes a measure's line.
 #[tactic(auto, using(model::proofs::Refusals::number_some), unfolding(crate::specs::LengthsText::line_of))]
-fn put_answer(out: &mut [u8], at: usize, measure: usize, answer: Answer) -> usize
-    requires { at + 105 ≤ length out.old }
-    ensures { Put out.old at (line_of measure (answer_says answer)) result out.new × (result ≤ at + 105) }
+fn put_answer(out: &mut Columns, measure: usize, answer: Answer)
+    requires { HasRoom out.old 105 }
+    ensures put { Appends out.old out.new (line_of measure (answer_says answer)) }
+    ensures few { out.new.at ≤ out.old.at + 105 }
 {
     let (length, refusal) = match answer.length {
         Ok(k) => (Cell::Number(k), 0),
         Err(c) => (Cell::Dash, u32::from(c) as usize),
     };
-    columns::put_line(
-        out,
-        at,
+    out.line(
         Cell::Number(measure),
         length,
         Cell::Number(refusal),
         Cell::Number(answer.counts.compositions.0),
         Cell::Number(answer.counts.tests.0),
-    )
+    );
 }
 
 // Writes the lines of the four measures.
-fn put_measures(out: &mut [u8], at: usize, n: usize, picks: usize, words: &[u32]) -> usize
-    requires { (n ≤ 32) × (at + 420 ≤ length out.old) }
-    ensures { Put out.old at (lines_of n picks words.now 4) result out.new × (result ≤ at + 420) }
+#[tactic(auto, using(crate::proofs::Lines::lines))]
+fn put_measures(out: &mut Columns, n: usize, picks: usize, words: &[u32])
+    requires boards { n ≤ 32 }
+    requires room { HasRoom out.old 420 }
+    ensures put { Appends out.old out.new (lines_of n picks words.now 4) }
+    ensures few { out.new.at ≤ out.old.at + 420 }
 {
-    let mut next = at;
     for measure in 1..5 {
         let answer = answer_of(n, picks, words, measure);
-        next = put_answer(out, next, measure, answer);
+        put_answer(out, measure, answer);
     }
-    next
+}
+
+// Writes what stands under the header, at most 420 bytes.
+#[tactic(auto, using(crate::proofs::Lines::readings))]
+fn put_reading(out: &mut Columns, bytes: &[u8])
+    requires { HasRoom out.old 420 }
+    ensures put { Appends out.old out.new
+        (under_header (read_says 40 bytes.now (zeros 1280)) (read_leaves 40 bytes.now (zeros 1280))) }
+    ensures few { out.new.at ≤ out.old.at + 420 }
+{
+    let mut words = lists::zeroed::<1280>();
+    match recording::read(bytes, 40, &mut words) {
+        Ok(Reading { boards, picks }) => put_measures(out, boards, picks, &words[..picks * boards]),
+        Err(c) => {
+            let refusal = Cell::Number(u32::from(c) as usize);
+            let none = Cell::Number(0);
+            out.line(Cell::File, Cell::Dash, refusal, none, none);
+        }
+    }
 }
 
 // Writes the text of a file at the start of out, at most 462 bytes, and answers its length. What stands behind it stays.
@@ -68,16 +88,8 @@ pub fn put_lengths(bytes: &[u8], out: &mut [u8]) -> usize
     ensures { (result ≤ length out.new) × (take result out.new ≡ text_of bytes.now)
         × (drop result out.new ≡ drop result out.old) }
 {
-    let mut words = lists::zeroed::<1280>();
-    let at = columns::put_text(out, 0, b"measure length refusal compositions tests\n");
-    match recording::read(bytes, 40, &mut words) {
-        Ok(Reading { boards, picks }) => {
-            put_measures(out, at, boards, picks, &words[..picks * boards])
-        }
-        Err(c) => {
-            let refusal = Cell::Number(u32::from(c) as usize);
-            let none = Cell::Number(0);
-            columns::put_line(out, at, Cell::File, Cell::Dash, refusal, none, none)
-        }
-    }
+    let mut out = Columns { buf: out, at: 0 };
+    out.text(b"measure length refusal compositions tests\n");
+    put_reading(&mut out, bytes);
+    out.at
 }
