@@ -37,11 +37,11 @@ fn run<S: Copy, F: Fn(S, &[u32], &mut [u32]) -> Outcome>(
 
 fn whole(settings: RunSettings, words: &[u32], area: &mut [u32]) -> Outcome {
     let answer = calls::whole(settings.boards, settings.measure, words, area);
-    answer.length.err().into()
+    Outcome::Refusal(answer.length.err())
 }
 
 fn table(boards: usize, words: &[u32], out: &mut [u32]) -> Outcome {
-    reach::table(boards, words, out).err().into()
+    Outcome::Refusal(reach::table(boards, words, out).err())
 }
 
 // A refused opening hands back the place of zeros and noes.
@@ -52,8 +52,8 @@ fn opening(settings: Settings, list: &[u32], area: &mut [u32]) -> Outcome {
         limit,
     } = settings;
     match calls::open(boards, measure, limit, list, area) {
-        Ok(_) => Outcome::from(None),
-        Err(refused) if refused.place == Place::NOWHERE => Some(refused.cause).into(),
+        Ok(_) => Outcome::Refusal(None),
+        Err(refused) if refused.place == Place::NOWHERE => Outcome::Refusal(Some(refused.cause)),
         Err(refused) => Outcome::Changed(Some(refused.cause)),
     }
 }
@@ -66,7 +66,7 @@ fn reading(edge: &ReadEdge, area: &mut [u32]) -> Outcome {
     }
     let out = &mut area[..edge.room];
     out.fill(MARK);
-    let outcome = Outcome::from(recording::read(&file[..edge.lent], edge.limit, out).err());
+    let outcome = Outcome::Refusal(recording::read(&file[..edge.lent], edge.limit, out).err());
     outcome.left(is_marked(out))
 }
 
@@ -85,7 +85,7 @@ fn compare_decisions(tally: &mut Tally, words: &mut [u32], area: &mut [u32]) {
         for k in [0, 1, picks, picks.wrapping_add(1), usize::MAX] {
             let got = run(edge, LINKS, words, area, |settings, words, area| {
                 let decision = decision::decide(settings.boards, settings.measure, words, k, area);
-                decision.err().into()
+                Outcome::Refusal(decision.err())
             });
             tally.compare_row(got, decide_refusal(edge.refusal, k, picks));
         }
@@ -129,13 +129,13 @@ pub fn tally(out: Stdout, call: Call, words: &mut [u32], area: &mut [u32]) -> Ta
 pub fn tally_of_a(out: Stdout, table: &mut [u32]) -> Tally {
     let mut tally = Tally::new(out, Group::TableOfA);
     let a = [2u32, 0, 0, 1, 2, 0, 0, 1];
-    tally.compare_row(reach::table(2, &a, table).err().into(), None);
+    tally.compare_row(Outcome::Refusal(reach::table(2, &a, table).err()), None);
     for (u, wanted) in [2, 1].iter().enumerate() {
         let got = table.get(u).map_or(0, |word| *word as usize);
         tally.compare(
             Case::new("A", 1, None).at_part(u),
-            Outcome::from(Ok(got)),
-            Outcome::from(Ok(*wanted)),
+            Outcome::Number(Ok(got)),
+            Outcome::Number(Ok(*wanted)),
         );
     }
     tally

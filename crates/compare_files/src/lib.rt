@@ -21,7 +21,7 @@ fn load<R: Files>(rt: &R, file: &str, words: &mut [u32]) -> Result<Reading, Outc
     let mut bytes = [0u8; 4096];
     let n = inputs::read_full(&mut source, &mut bytes);
     words.fill(MARK);
-    recording::read(&bytes[..n], LIMIT, words).map_err(|cause| Outcome::from(Some(cause)).left(
+    recording::read(&bytes[..n], LIMIT, words).map_err(|cause| Outcome::Refusal(Some(cause)).left(
         is_marked(words),
     ))
 }
@@ -56,7 +56,7 @@ fn compare_listed<R: Files>(
             let case = Case::new(file, number, kind.measure());
             match recorded(rt, case, words) {
                 Some(recorded) => compare_runs::run(tally, kind, &recorded, area),
-                None => tally.compare(case, Outcome::NotRun, Outcome::from(None)),
+                None => tally.compare(case, Outcome::NotRun, Outcome::Refusal(None)),
             }
         }
         (
@@ -69,21 +69,19 @@ fn compare_listed<R: Files>(
         ) => {
             let case = Case::new(file, number, Some(measure));
             let got = match recorded(rt, case, words) {
-                Some(recorded) => compare_runs::run_whole(
-                    &recorded.recording,
-                    measure,
-                    area,
-                ).into(),
+                Some(recorded) => Outcome::Length(
+                    compare_runs::run_whole(&recorded.recording, measure, area),
+                ),
                 None => Outcome::NotRun,
             };
-            tally.compare(case, got, answer);
+            tally.compare(case, got, Outcome::Length(answer));
         }
         (Group::FilesRead, Listed::Read { file, refusal }) => {
             let got = match load(rt, file, words) {
-                Ok(_) => Outcome::from(None),
+                Ok(_) => Outcome::Refusal(None),
                 Err(outcome) => outcome,
             };
-            tally.compare(Case::new(file, number, None), got, refusal.into());
+            tally.compare(Case::new(file, number, None), got, Outcome::Refusal(refusal));
         }
         _ => {}
     }

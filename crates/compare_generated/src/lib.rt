@@ -29,7 +29,7 @@ pub fn tally(out: Stdout, kind: Kind, area: &mut [u32]) -> Tally {
         generator.fill(&mut words, boards, SHARES[i % 4]);
         match Recorded::new(case, boards, picks, &words) {
             Some(recorded) => compare_runs::run(&mut tally, kind, &recorded, area),
-            None => tally.compare(case, Outcome::NotRun, Outcome::from(None)),
+            None => tally.compare(case, Outcome::NotRun, Outcome::Refusal(None)),
         }
     }
     tally

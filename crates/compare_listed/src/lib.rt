@@ -1,8 +1,8 @@
 // A case as one word, its fields parted by colons.
 #![tactic(auto)]
 
-use compare_tallies::Outcome;
-use model::{Compositions, Refusal, Tests};
+use calls::Answer;
+use model::{Compositions, NoCause, Refusal, Tests};
 use place::Counts;
 
 #[derive(Drop)]
@@ -16,46 +16,20 @@ pub enum Listed<'a> {
     Stated {
         file: &'a str,
         measure: usize,
-        answer: Outcome,
+        answer: Answer,
     },
 }
-
-static REFUSALS: [Refusal; 18] = [
-    Refusal::Boards,
-    Refusal::Measure,
-    Refusal::Picks,
-    Refusal::Room,
-    Refusal::Forbidden,
-    Refusal::Unlisted,
-    Refusal::Full,
-    Refusal::NoPick,
-    Refusal::NoLength,
-    Refusal::Shape,
-    Refusal::Command,
-    Refusal::Stopped,
-    Refusal::Operands,
-    Refusal::Unchanged,
-    Refusal::Trailing,
-    Refusal::BadPlace,
-    Refusal::WindowLength,
-    Refusal::FileRoom,
-];
 
 fn number(field: &str) -> Option<usize> {
     field.parse().ok()
 }
 
-// The refusal of a number, none for 0; a number that no refusal has is no field of a case.
-fn refusal_of(field: &str) -> Option<Option<Refusal>> {
-    let number = field.parse::<u32>().ok()?;
-    if number == 0 {
-        return Some(None);
+// The refusal of a number, none for 0.
+fn refusal_of(number: u32) -> Result<Option<Refusal>, NoCause> {
+    match number {
+        0 => Ok(None),
+        _ => Refusal::try_from(number).map(Some),
     }
-    let refusal = REFUSALS
-        .iter()
-        .copied()
-        .find(|cause| u32::from(*cause) == number);
-    Some(Some(refusal?))
 }
 
 // None where the word is no case.
@@ -65,12 +39,12 @@ pub fn parse(text: &str) -> Option<Listed<'_>> {
     match text.split(':').count() {
         2 => Some(Listed::Read {
             file,
-            refusal: refusal_of(fields.next()?)?,
+            refusal: refusal_of(fields.next()?.parse().ok()?).ok()?,
         }),
         6 => {
             let measure = number(fields.next()?)?;
             let length = number(fields.next()?);
-            let value = match refusal_of(fields.next()?)? {
+            let length = match refusal_of(fields.next()?.parse().ok()?).ok()? {
                 None => Ok(length?),
                 Some(cause) => Err(cause),
             };
@@ -83,7 +57,7 @@ pub fn parse(text: &str) -> Option<Listed<'_>> {
             Some(Listed::Stated {
                 file,
                 measure,
-                answer: Outcome::Answered { value, counts },
+                answer: Answer { length, counts },
             })
         }
         _ => None,

@@ -6,6 +6,7 @@ ghost use Rattle.std.specs.Prelude.{◌≤◌, ◌<◌, IfSome};
 use calls::Answer;
 use compare_cases::Recorded;
 use compare_tallies::{Kind, Outcome, Tally};
+use decision::Decision;
 use model::{Compositions, Refusal, Tests};
 use naive::Recording;
 use naive_walk::Walk;
@@ -20,7 +21,7 @@ pub fn run_whole(recording: &Recording<'_>, measure: usize, area: &mut [u32]) ->
 // What the second implementation answers of a whole run.
 fn naive_whole(walk: &Walk<'_>) -> Outcome {
     if walk.recording.picks == 0 {
-        return Outcome::from(Some(Refusal::NoPick));
+        return Outcome::Length(Answer::refused(Refusal::NoPick));
     }
     compare_walks::naive_answer(walk, walk.whole())
 }
@@ -30,7 +31,7 @@ fn compare_whole(tally: &mut Tally, recorded: &Recorded<'_, '_>, measure: usize,
     let got = run_whole(&recording, measure, area);
     tally.compare(
         recorded.case,
-        got.into(),
+        Outcome::Length(got),
         naive_whole(&Walk { recording, measure }),
     );
 }
@@ -69,7 +70,7 @@ fn compare_counts(
             ..got
         },
     };
-    tally.compare(recorded.case, got.into(), wanted.into());
+    tally.compare(recorded.case, Outcome::Length(got), Outcome::Length(wanted));
 }
 
 // ---- a window length
@@ -86,10 +87,10 @@ fn naive_decision(walk: &Walk<'_>, k: usize) -> Outcome
     if x.failed == yes {
         return Outcome::NotRun;
     }
-    Outcome::Answered {
-        value: Ok(usize::from(yes)),
+    Outcome::Decision(Ok(Decision {
+        yes,
         counts: compare_walks::counts_of(x),
-    }
+    }))
 }
 
 // Every window length from 1 to the number of picks: no recording here has more than 40.
@@ -105,7 +106,7 @@ fn compare_decisions(
         let got = decision::decide(recording.boards, measure, recording.words, k, area);
         tally.compare(
             recorded.case.at_part(k),
-            got.into(),
+            Outcome::Decision(got),
             naive_decision(&walk, k),
         );
     }
@@ -128,8 +129,8 @@ fn compare_rows(tally: &mut Tally, recorded: &Recorded<'_, '_>, table: &[u32]) {
     let wanted = recording.reach_word(u) as usize;
     tally.compare(
         recorded.case.at_part(u),
-        Outcome::from(Ok(got)),
-        Outcome::from(Ok(wanted)),
+        Outcome::Number(Ok(got)),
+        Outcome::Number(Ok(wanted)),
     );
 }
 
@@ -138,7 +139,11 @@ fn compare_table(tally: &mut Tally, recorded: &Recorded<'_, '_>, out: &mut [u32]
     let wanted = (recording.picks == 0).then_some(Refusal::NoPick);
     let refusal = reach::table(recording.boards, recording.words, out).err();
     if refusal.or(wanted).is_some() {
-        tally.compare(recorded.case, refusal.into(), wanted.into());
+        tally.compare(
+            recorded.case,
+            Outcome::Refusal(refusal),
+            Outcome::Refusal(wanted),
+        );
     } else {
         compare_rows(tally, recorded, out);
     }

@@ -34,10 +34,10 @@ fn run(edge: &Edge<usize>, words: &mut [u32]) -> Outcome {
     let mut wanted = marked();
     let size = put_wanted(edge, lent, &mut wanted);
     let outcome = saved_as(edge.settings, lent, edge.room, &mut marked(), &wanted);
-    if outcome == Outcome::from(Ok(size)) {
-        Outcome::from(None)
-    } else {
-        outcome
+    match outcome {
+        Outcome::Number(Ok(found)) if found == size => Outcome::Refusal(None),
+        Outcome::Number(Err(cause)) => Outcome::Refusal(Some(cause)),
+        _ => outcome,
     }
 }
 

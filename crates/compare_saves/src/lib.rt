@@ -33,7 +33,7 @@ pub fn saved_as(n: usize, words: &[u32], room: usize, out: &mut [u8], wanted: &[
     out.fill(BYTE_MARK);
     let saved = saving::save(n, words, &mut out[..room]);
     if *out == *wanted {
-        saved.into()
+        Outcome::Number(saved)
     } else {
         Outcome::Changed(saved.err())
     }
@@ -54,11 +54,11 @@ fn read_back(recording: &Recording<'_>, file: &[u8], area: &mut [u32]) -> Outcom
                 && read.picks == recording.picks
                 && area.starts_with(recording.words)
             {
-                return Outcome::from(None);
+                return Outcome::Refusal(None);
             }
             Outcome::Changed(None)
         }
-        Err(cause) => Outcome::from(Some(cause)),
+        Err(cause) => Outcome::Refusal(Some(cause)),
     }
 }
 
@@ -71,7 +71,7 @@ pub fn compare_saves(tally: &mut Tally, recorded: &Recorded<'_, '_>, area: &mut 
     let words = recording.words;
     let mut wanted = marked();
     let size = naive_file::write(&mut wanted, &recording);
-    let written = Outcome::from(Ok(size));
+    let written = Outcome::Number(Ok(size));
     let mut out = marked();
     let longer = saved_as(n, words, BYTES, &mut out, &wanted);
     tally.compare(case.at_part(1), longer, written);
@@ -79,7 +79,7 @@ pub fn compare_saves(tally: &mut Tally, recorded: &Recorded<'_, '_>, area: &mut 
     tally.compare(
         case.at_part(2),
         short,
-        Outcome::from(Some(Refusal::FileRoom)),
+        Outcome::Number(Err(Refusal::FileRoom)),
     );
     let exact = saved_as(n, words, size, &mut out, &wanted);
     tally.compare(case.at_part(3), exact, written);
@@ -87,7 +87,7 @@ pub fn compare_saves(tally: &mut Tally, recorded: &Recorded<'_, '_>, area: &mut 
         Some(file) => read_back(&recording, file, area),
         None => Outcome::NotRun,
     };
-    tally.compare(case.at_part(4), read, Outcome::from(None));
+    tally.compare(case.at_part(4), read, Outcome::Refusal(None));
     let again = match area.get(..words.len()) {
         Some(found) => saved_as(n, found, size, &mut out, &wanted),
         None => Outcome::NotRun,

@@ -144,64 +144,38 @@ impl<'a> Case<'a> {
 
 // ---- outcomes
 
+// Two that are compared are of one kind: what is wanted of a call is written in the kind of its answer.
 #[derive(Clone, Copy, PartialEq, Eq)]
 pub enum Outcome {
-    // A length, a word of a table, the size of a file, or 1 for yes and 0 for no; or the refusal. Where no counts belong to it they are 0.
-    Answered {
-        value: Result<usize, Refusal>,
-        counts: Counts,
-    },
+    // A length, with its counts.
+    Length(Answer),
+    // Yes or no, with its counts.
+    Decision(Result<Decision, Refusal>),
+    // A word of a table, or the size of a file.
+    Number(Result<usize, Refusal>),
+    // Whether it is refused, and nothing else.
+    Refusal(Option<Refusal>),
     // Answered or refused, with a byte or a word other than it must be.
     Changed(Option<Refusal>),
     // No call answers this: the case could not be run, for want of a file, of room, or of one answer to hold it to.
     NotRun,
 }
 
-impl From<Result<usize, Refusal>> for Outcome {
-    fn from(value: Result<usize, Refusal>) -> Outcome {
-        Outcome::Answered {
-            value,
-            counts: Counts::NONE,
-        }
-    }
-}
-
-// Whether it is refused, and nothing else.
-impl From<Option<Refusal>> for Outcome {
-    fn from(refusal: Option<Refusal>) -> Outcome {
-        refusal.map_or(Ok(0), Err).into()
-    }
-}
-
-impl From<Answer> for Outcome {
-    fn from(answer: Answer) -> Outcome {
-        Outcome::Answered {
-            value: answer.length,
-            counts: answer.counts,
-        }
-    }
-}
-
-impl From<Result<Decision, Refusal>> for Outcome {
-    fn from(answer: Result<Decision, Refusal>) -> Outcome {
-        match answer {
-            Ok(Decision { yes, counts }) => Outcome::Answered {
-                value: Ok(usize::from(yes)),
-                counts,
-            },
-            Err(cause) => Some(cause).into(),
-        }
-    }
-}
-
 impl Outcome {
+    fn refusal(self) -> Option<Refusal> {
+        match self {
+            Outcome::Length(answer) => answer.length.err(),
+            Outcome::Decision(answer) => answer.err(),
+            Outcome::Number(answer) => answer.err(),
+            Outcome::Refusal(refusal) | Outcome::Changed(refusal) => refusal,
+            Outcome::NotRun => None,
+        }
+    }
+
     // Of a call that must leave what was lent wherever it refuses. After an answer, and after 9, that is not asked.
     pub fn left(self, kept: bool) -> Outcome {
-        match self {
-            Outcome::Answered {
-                value: Err(cause),
-                ..
-            } if !kept && cause != Refusal::NoLength => Outcome::Changed(Some(cause)),
+        match self.refusal() {
+            Some(cause) if !kept && cause != Refusal::NoLength => Outcome::Changed(Some(cause)),
             _ => self,
         }
     }
@@ -209,7 +183,7 @@ impl Outcome {
 
 // ---- lines
 
-// A number, or a dash where there is none. It is a dash for 0 too, which is a no, a call that is not refused, or the first row of a table.
+// A number, or a dash where there is none. It is a dash for 0 too: a word with no bit, or the first row of a table.
 #[derive(Clone, Copy)]
 struct Cell(Option<usize>);
 
@@ -232,23 +206,27 @@ impl fmt::Display for Case<'_> {
     }
 }
 
-// The value, 1 where something was changed; the number of the refusal, 0 where there is none and 999 where the case was not run; both counts.
+// The value, 1 for yes and where something was changed; the number of the refusal, 0 where there is none and 999 where the case was not run; both counts, 0
+// where none belong to it.
 impl fmt::Display for Outcome {
     fn fmt<W: fmt::Write>(&self, f: &mut fmt::Formatter<W>) -> fmt::Result {
-        match *self {
-            Outcome::Answered { value, counts } => {
-                let cell = Cell(value.ok());
-                let refusal = value.err().map_or(0, u32::from);
-                let compositions = counts.compositions.0;
-                let tests = counts.tests.0;
-                write!(f, "{cell} {refusal} {compositions} {tests}")
+        let (value, counts) = match *self {
+            Outcome::Length(Answer { length, counts }) => (length.ok(), counts),
+            Outcome::Decision(Ok(Decision { yes, counts })) => (yes.then_some(1), counts),
+            Outcome::Number(answer) => (answer.ok(), Counts::NONE),
+            Outcome::Changed(_) => (Some(1), Counts::NONE),
+            Outcome::Decision(Err(_)) | Outcome::Refusal(_) | Outcome::NotRun => {
+                (None, Counts::NONE)
             }
-            Outcome::Changed(refusal) => {
-                let refusal = refusal.map_or(0, u32::from);
-                write!(f, "1 {refusal} 0 0")
-            }
-            Outcome::NotRun => f.write_str("- 999 0 0"),
-        }
+        };
+        let cell = Cell(value);
+        let refusal = match *self {
+            Outcome::NotRun => 999,
+            _ => self.refusal().map_or(0, u32::from),
+        };
+        let compositions = counts.compositions.0;
+        let tests = counts.tests.0;
+        write!(f, "{cell} {refusal} {compositions} {tests}")
     }
 }
 
@@ -287,7 +265,7 @@ impl Tally {
     pub fn compare_row(&mut self, got: Outcome, wanted: Option<Refusal>) {
         let number = self.cases as usize + 1;
         let case = Case::new("row", number, self.group.measure());
-        self.compare(case, got, wanted.into());
+        self.compare(case, got, Outcome::Refusal(wanted));
     }
 
     // The line of the group.

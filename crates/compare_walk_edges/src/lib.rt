@@ -2,6 +2,7 @@
 // place back as it was and leave every word of the area.
 #![tactic(auto)]
 
+use calls::Answer;
 use compare_rows::{PICK_EDGES, PLACE_EDGES, PickEdge, put_own};
 use compare_tallies::{Case, Group, Outcome, Tally};
 use model::{Compositions, Refusal, Tests};
@@ -18,9 +19,9 @@ fn run_pick(p: Place, area: &mut [u32], words: &[u32], kept: &mut [u32]) -> Outc
     let kept = &mut kept[..area.len()];
     kept.copy_from_slice(area);
     match calls::pick(p, area, words) {
-        Ok(_) => Outcome::from(None),
+        Ok(_) => Outcome::Refusal(None),
         Err(refused) => {
-            Outcome::from(Some(refused.cause)).left(refused.place == p && *kept == *area)
+            Outcome::Refusal(Some(refused.cause)).left(refused.place == p && *kept == *area)
         }
     }
 }
@@ -30,7 +31,7 @@ fn run_length(p: Place) -> Outcome {
     let measured = calls::length(p);
     let refusal = measured.answer.length.err();
     if measured.place == p {
-        refusal.into()
+        Outcome::Refusal(refusal)
     } else {
         Outcome::Changed(refusal)
     }
@@ -105,12 +106,12 @@ pub fn compare_places(tally: &mut Tally, area: &mut [u32], kept: &mut [u32]) {
         tally.compare(
             Case::new("pick", i + 1, None),
             pick,
-            edge.refusal_pick.into(),
+            Outcome::Refusal(edge.refusal_pick),
         );
         tally.compare(
             Case::new("length", i + 1, None),
             length,
-            edge.refusal_length.into(),
+            Outcome::Refusal(edge.refusal_length),
         );
     }
 }
@@ -127,15 +128,15 @@ pub fn tally_limit(out: Stdout, area: &mut [u32], kept: &mut [u32]) -> Tally {
     tally.compare(
         Case::new("row", 1, Some(3)),
         run_length(fresh),
-        Outcome::from(Some(Refusal::NoPick)),
+        Outcome::Refusal(Some(Refusal::NoPick)),
     );
     tally.compare(
         Case::new("row", 2, Some(3)),
         run_pick(full, area, &both, kept),
-        Outcome::from(Some(Refusal::Full)),
+        Outcome::Refusal(Some(Refusal::Full)),
     );
-    let wanted = Outcome::Answered {
-        value: Ok(1),
+    let wanted = Answer {
+        length: Ok(1),
         counts: Counts {
             compositions: Compositions(0),
             tests: Tests(most),
@@ -144,7 +145,7 @@ pub fn tally_limit(out: Stdout, area: &mut [u32], kept: &mut [u32]) -> Tally {
     tally.compare(
         Case::new("full", 3, Some(3)).at_part(most),
         compare_walks::measured(full, most),
-        wanted,
+        Outcome::Length(wanted),
     );
     tally
 }

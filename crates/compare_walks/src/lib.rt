@@ -25,7 +25,7 @@ pub fn naive_answer(walk: &Walk<'_>, x: Numbers) -> Outcome {
     if walk.length(x) != length {
         return Outcome::NotRun;
     }
-    Outcome::from(Answer {
+    Outcome::Length(Answer {
         length: length.ok_or(Refusal::NoLength),
         counts: counts_of(x),
     })
@@ -56,7 +56,7 @@ pub fn measured(p: Place, k: usize) -> Outcome {
     if p.window.taken != Pick(k) {
         return Outcome::NotRun;
     }
-    calls::length(p).answer.into()
+    Outcome::Length(calls::length(p).answer)
 }
 
 pub fn compare_picks(

@@ -3,7 +3,7 @@
 
 ghost use Rattle.std.specs.Prelude.{◌≡◌};
 ghost use Rattle.model.specs.Causes.{between};
-ghost use Rattle.model.specs.Refusals.{number};
+ghost use Rattle.model.specs.Refusals.{number, HasNumber};
 
 // A board's number, from 0 on.
 #[derive(Clone, Copy, PartialEq, Eq)]
@@ -69,6 +69,41 @@ impl From<Refusal> for u32 {
 
     fn from(cause: Refusal) -> u32 {
         cause as u32
+    }
+}
+
+// A number that no cause has.
+#[derive(Clone, Copy, PartialEq, Eq)]
+pub struct NoCause;
+
+// The cause of a number.
+impl TryFrom<u32> for Refusal {
+    type Error = NoCause;
+
+    ghost try_from_gives = { HasNumber };
+
+    fn try_from(word: u32) -> Result<Refusal, NoCause> {
+        match word {
+            1 => Ok(Refusal::Boards),
+            2 => Ok(Refusal::Measure),
+            3 => Ok(Refusal::Picks),
+            4 => Ok(Refusal::Room),
+            5 => Ok(Refusal::Forbidden),
+            6 => Ok(Refusal::Unlisted),
+            7 => Ok(Refusal::Full),
+            8 => Ok(Refusal::NoPick),
+            9 => Ok(Refusal::NoLength),
+            10 => Ok(Refusal::Shape),
+            11 => Ok(Refusal::Command),
+            12 => Ok(Refusal::Stopped),
+            13 => Ok(Refusal::Operands),
+            14 => Ok(Refusal::Unchanged),
+            15 => Ok(Refusal::Trailing),
+            16 => Ok(Refusal::BadPlace),
+            17 => Ok(Refusal::WindowLength),
+            18 => Ok(Refusal::FileRoom),
+            _ => Err(NoCause),
+        }
     }
 }
 

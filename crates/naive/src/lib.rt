@@ -2,20 +2,33 @@
 // A measure stays a number, 1 to 4: 01 hands numbers, and cause 2 refuses others, so none of them comes here.
 #![tactic(auto)]
 
-ghost use Rattle.std.specs.Prelude.{ℕ, ◌≤◌, ◌<◌};
+ghost use Rattle.std.specs.Prelude.{◌≤◌, ◌<◌};
+
+// ---- boards
+
+// A board by its number, and so its bit in a set. Callers hand bare numbers.
+#[derive(Clone, Copy, PartialEq, Eq)]
+struct Board {
+    index: usize,
+    ghost low: { index < 32 },
+}
+
+impl Board {
+    fn new(index: usize) -> Board
+        requires { index < 32 }
+    {
+        Board { index }
+    }
+}
 
 // ---- sets of boards: bit u for board u
 
-fn has(set: u32, u: usize) -> bool
-    requires { u < 32 }
-{
-    (set >> u) % 2 == 1
+fn has(set: u32, board: Board) -> bool {
+    (set >> board.index) % 2 == 1
 }
 
-fn only(u: usize) -> u32
-    requires { u < 32 }
-{
-    1u32 << u
+fn only(board: Board) -> u32 {
+    1u32 << board.index
 }
 
 // ---- recordings
@@ -53,31 +66,34 @@ impl<'a> Recording<'a> {
 
 impl Recording<'_> {
     // Board u's word of pick p; 0 where the recording has none.
-    fn word(&self, p: usize, u: usize) -> u32
-        requires { (p < 4096) × (u < 32) }
+    fn word(&self, p: usize, board: Board) -> u32
+        requires { p < 4096 }
     {
-        self.words.get(p * self.boards + u).copied().unwrap_or(0)
+        self.words
+            .get(p * self.boards + board.index)
+            .copied()
+            .unwrap_or(0)
     }
 
     // Whether the link from a to b is open at pick p.
     pub fn is_open(&self, p: usize, a: usize, b: usize) -> bool
         requires { (p < 4096) × ((a < 32) × (b < 32)) }
     {
-        has(self.word(p, a), b)
+        has(self.word(p, Board::new(a)), Board::new(b))
     }
 
     fn has_all(&self, set: u32) -> bool {
-        (0..self.boards).all(|u| has(set, u))
+        (0..self.boards).map(Board::new).all(|u| has(set, u))
     }
 
     // The boards that rows lead to from a set, with the set: rounds until nothing changes. No path needs more than n links, so n are enough.
-    fn led_to<F: Fn(usize) -> u32>(&self, from: u32, row: F) -> u32
-        requires { (u : ℕ) → u < 32 → F.pre row u }
+    fn led_to<F: Fn(Board) -> u32>(&self, from: u32, row: F) -> u32
+        requires { F.IsAlwaysCallable row }
     {
         let mut set = from;
         for _ in 0..self.boards {
             let before = set;
-            for u in 0..self.boards {
+            for u in (0..self.boards).map(Board::new) {
                 if has(set, u) {
                     set |= row(u);
                 }
@@ -94,34 +110,26 @@ impl Window<'_> {
     // ---- measure 1
 
     // The boards that u is linked to at every pick of the window.
-    fn common(&self, u: usize) -> u32
-        requires { u < 32 }
-    {
+    fn common(&self, u: Board) -> u32 {
         (self.start..self.end).fold(u32::MAX, |row, p| row & self.recording.word(p, u))
     }
 
     // The boards that common links lead to from x, and x itself.
-    fn joined(&self, x: usize) -> u32
-        requires { x < 32 }
-    {
+    fn joined(&self, x: Board) -> u32 {
         self.recording.led_to(only(x), |u| self.common(u))
     }
 
     // ---- measure 2
 
     // The boards that u is linked to at some pick of the window.
-    fn united(&self, u: usize) -> u32
-        requires { u < 32 }
-    {
+    fn united(&self, u: Board) -> u32 {
         (self.start..self.end).fold(0, |row, p| row | self.recording.word(p, u))
     }
 
     // ---- measure 3
 
     // The boards that journeys of the window lead to from x, and x itself: at each pick over any number of its links.
-    fn reached(&self, x: usize) -> u32
-        requires { x < 32 }
-    {
+    fn reached(&self, x: Board) -> u32 {
         (self.start..self.end).fold(only(x), |set, p| {
             self.recording.led_to(set, |u| self.recording.word(p, u))
         })
@@ -130,9 +138,7 @@ impl Window<'_> {
     // ---- measure 4
 
     // The pick of the earliest arrival from x at y.
-    fn arrival(&self, x: usize, y: usize) -> Option<usize>
-        requires { (x < 32) × (y < 32) }
-    {
+    fn arrival(&self, x: Board, y: Board) -> Option<usize> {
         (self.start..self.end).find(|p| has(
             self.recording.window(self.start, *p + 1).reached(x),
             y,
@@ -140,40 +146,34 @@ impl Window<'_> {
     }
 
     // The last pick from which on a journey leads from y to x.
-    fn departure(&self, y: usize, x: usize) -> Option<usize>
-        requires { (x < 32) × (y < 32) }
-    {
+    fn departure(&self, y: Board, x: Board) -> Option<usize> {
         (self.start..self.end)
             .rev()
             .find(|d| has(self.recording.window(*d, self.end).reached(y), x))
     }
 
     // Both journeys exist, and the one from x has arrived at y at or before the last departure from y.
-    fn is_round_trip(&self, x: usize, y: usize) -> bool
-        requires { (x < 32) × (y < 32) }
-    {
+    fn is_round_trip(&self, x: Board, y: Board) -> bool {
         match (self.arrival(x, y), self.departure(y, x)) {
             (Some(there), Some(back)) => there <= back,
             _ => false,
         }
     }
 
-    fn are_round_trips(&self, x: usize) -> bool
-        requires { x < 32 }
-    {
-        (0..self.recording.boards).all(|y| x == y || self.is_round_trip(x, y))
+    fn are_round_trips(&self, x: Board) -> bool {
+        (0..self.recording.boards)
+            .map(Board::new)
+            .all(|y| x == y || self.is_round_trip(x, y))
     }
 
     // ---- all measures
 
     // What a measure asks of the window at board x: its common links lead from x to every board; its union has the same links from x as that of all picks;
     // there is a journey from x to every other board; there is a round trip.
-    fn serves(&self, measure: usize, x: usize) -> bool
-        requires { x < 32 }
-    {
+    fn serves(&self, measure: usize, x: Board) -> bool {
         match measure {
             1 => self.recording.has_all(self.joined(x)),
-            2 => self.united(x) == self.recording.list_word(x),
+            2 => self.united(x) == self.recording.list_word(x.index),
             3 => self.recording.has_all(self.reached(x)),
             _ => self.are_round_trips(x),
         }
@@ -181,33 +181,33 @@ impl Window<'_> {
 
     // Whether the window passes under a measure.
     pub fn passes(&self, measure: usize) -> bool {
-        (0..self.recording.boards).all(|x| self.serves(measure, x))
+        (0..self.recording.boards)
+            .map(Board::new)
+            .all(|x| self.serves(measure, x))
     }
 
     // ---- request A3 of 02: how much is missing
 
     // Whether the window does for the pair x, y what the measure asks: its common links lead from x to y; a link is in its union just where it is in the
     // list; it has a journey; it has a round trip. A board and itself are no pair, and nothing is asked.
-    fn is_met(&self, measure: usize, x: usize, y: usize) -> bool
-        requires { (x < 32) × (y < 32) }
-    {
+    fn is_met(&self, measure: usize, x: Board, y: Board) -> bool {
         if x == y {
             return true;
         }
         match measure {
             1 => has(self.joined(x), y),
-            2 => has(self.united(x), y) == has(self.recording.list_word(x), y),
+            2 => has(self.united(x), y) == has(self.recording.list_word(x.index), y),
             3 => has(self.reached(x), y),
             _ => self.is_round_trip(x, y),
         }
     }
 
     // The pairs from x whose condition is not met.
-    fn unmet_from(&self, measure: usize, x: usize) -> u32
-        requires { x < 32 }
+    fn unmet_from(&self, measure: usize, x: Board) -> u32
         ensures { result ≤ 32 }
     {
         (0..self.recording.boards)
+            .map(Board::new)
             .filter(|y| !self.is_met(measure, x, *y))
             .count() as u32
     }
@@ -215,7 +215,7 @@ impl Window<'_> {
     // The number of unmet conditions of the window, over all ordered pairs of boards.
     pub fn unmet(&self, measure: usize) -> u32 {
         (0..self.recording.boards)
-            .map(|x| self.unmet_from(measure, x))
+            .map(|u| self.unmet_from(measure, Board::new(u)))
             .sum()
     }
 }
@@ -248,13 +248,14 @@ impl Recording<'_> {
     pub fn list_word(&self, u: usize) -> u32
         requires { u < 32 }
     {
-        self.window(0, self.picks).united(u)
+        self.window(0, self.picks).united(Board::new(u))
     }
 
     // Board u's word of the table of reach of all picks: its own bit is clear.
     pub fn reach_word(&self, u: usize) -> u32
         requires { u < 32 }
     {
-        self.window(0, self.picks).reached(u) & !only(u)
+        let board = Board::new(u);
+        self.window(0, self.picks).reached(board) & !only(board)
     }
 }
