@@ -67,7 +67,7 @@ fn compose_itself(area: &mut [u32], measure: usize, n: usize, d: usize)
 }
 
 // Calls f with the table of part d, to be written, and that of part r, to be read: the area is cut between the two, so that both are lent at the same time.
-// They are not returned: what the area then becomes is proved of the halves of `split_at_mut` alone, not of words within one.
+// A closure, and not two slices as the result: of a slice cut from within a half the checker does not know what the area becomes when it is written.
 fn on_both<F: FnOnce(&mut [u32], &[u32])>(
     area: &mut [u32],
     measure: usize,

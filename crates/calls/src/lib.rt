@@ -19,14 +19,15 @@ use model::Refusal;
 use place::{Counts, Place, Settings};
 use steps::Mode;
 
-// What stands against a place: the cause, and the place that is handed back. That is zeros and noes for an opening, and the place as it was for a pick.
+// What stands against a place: the cause, and the place that 01 has handed back. That is zeros and noes for an opening, and the place as it was for a pick.
 #[derive(Clone, Copy, PartialEq, Eq)]
 pub struct Refused {
     pub place: Place,
     pub cause: Refusal,
 }
 
-// A length or a cause, with both counts. They are 0 where a cause other than 9 refuses.
+// A length or a cause, with both counts. They stand beside the `Result` since 9, which is a refusal in 01, has them too; where another cause refuses they
+// are 0.
 #[derive(Clone, Copy, PartialEq, Eq)]
 pub struct Answer {
     pub length: Result<usize, Refusal>,

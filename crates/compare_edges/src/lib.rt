@@ -58,7 +58,8 @@ fn opening(settings: Settings, list: &[u32], area: &mut [u32]) -> Outcome {
     }
 }
 
-// Of a file with two boards and two picks.
+// Of a file with two boards and two picks. The output is filled and looked at as in `run`; with one function for both, the check takes more than the 40 s
+// that a check may.
 fn reading(edge: &ReadEdge, area: &mut [u32]) -> Outcome {
     let file = [0x42u8, 0x02, 0x50, 0x50, 0x45];
     if file.len() < edge.lent || area.len() < edge.room {

@@ -1,4 +1,4 @@
-// Tables of links between n boards, 2 to 32: n words, bit v of word u for the pair u, v. Words are taken as they are found.
+// Tables of links between n boards, 2 to 32: n words, bit v of word u for the pair u, v; and picks as they are lent. Words are taken as they are found.
 #![tactic(auto)]
 
 ghost use Rattle.std.specs.Prelude.{◌≡◌, ◌≢◌, false, ℕ, ◌-◌, ◌*◌, ◌^◌, ◌≤◌, ◌<◌, T, length, take};
@@ -105,7 +105,7 @@ impl<'a> LentPicks<'a> {
     {
         let n = self.n;
         let mut made: usize = 0;
-        // By number: `chunks_exact` wants n above 0.
+        // By number: `chunks_exact` wants n above 0, which no caller is asked for.
         for k in from..self.m {
             let at = k * n;
             unite_into(out, &self.words[at..at + n]);

@@ -1,5 +1,6 @@
 // What the walk needs of each measure: the words of a table, a pick's own table, the composition, the test of a table.
 // A measure is a number everywhere: 01 hands any number and refuses with 2 what is no measure, and an enum would ask more of whoever calls.
+// Each function looks at it: with a type for each measure the archive would have four copies of the walk.
 #![tactic(auto)]
 
 ghost use Rattle.std.specs.Prelude.{◌≡◌, ◌≢◌, ◌^◌, ◌≤◌, ◌<◌, length};

@@ -58,7 +58,7 @@ pub fn nookmallow_pick(p: PlaceWords, area: &mut [u32], words: &[u32]) -> Handed
     }
     let handed = calls::pick(Place::from(p), area, words);
     if let Err(r) = handed {
-        // The caller's own words: made anew from the place, they cost 13 or 14 instructions at every pick.
+        // The caller's own words: made anew from the place, they cost every pick, refused or not, 13 or 14 instructions.
         return HandedWords {
             refusal: u32::from(r.cause),
             place: p,

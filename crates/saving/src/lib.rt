@@ -18,7 +18,7 @@ static SHUT: [u32; 32] = [0; 32];
 
 // ---- the output
 
-// The command byte of a link that opens, or shuts. Here and below that is part of what a command says, as its boards are; it chooses no step.
+// The command byte of a link that opens, or shuts. Here and below that is part of what a command says, as its boards are.
 fn code_of(opens: bool) -> u8
     ensures { result ≡ code opens }
 {
