@@ -48,8 +48,8 @@ pub fn is_listed(footprint: &[u32], words: &[u32]) -> bool
     ensures { result ≡ listed (length words.now) footprint.now words.now }
 {
     let mut bad = 0u32;
-    for (row, listed) in words.iter().zip(footprint) {
-        bad |= *row & !*listed;
+    for (u, row) in words.iter().enumerate() {
+        bad |= *row & !footprint[u];
     }
     bad == 0
 }

@@ -111,7 +111,7 @@ pub fn unite_into(t: &mut [u32], right: &[u32])
     requires { length t.old ≤ length right.now }
     ensures { t.new ≡ union (length t.old) t.old right.now }
 {
-    // By index: what is written through a `zip` over `iter_mut` is lost to the proof.
+    // By index, here and below: what `zip` lends for writing is lost to the proof, and to read two tables by it costs measure 2 some 3 per cent.
     for (u, row) in t.iter_mut().enumerate() {
         *row |= right[u];
     }
@@ -137,8 +137,8 @@ pub fn is_same(left: &[u32], right: &[u32]) -> bool
     ensures { result ≡ same (length right.now) left.now right.now }
 {
     let mut bad = 0u32;
-    for (row, other) in right.iter().zip(left) {
-        bad |= *row ^ *other;
+    for (u, row) in right.iter().enumerate() {
+        bad |= *row ^ left[u];
     }
     bad == 0
 }
@@ -151,7 +151,6 @@ pub fn is_union(list: &[u32], left: &[u32], right: &[u32]) -> bool
     ensures { result ≡ same (length list.now) list.now (union (length list.now) left.now right.now) }
 {
     let mut bad = 0u32;
-    // By index: of a `zip` of three the check does not find which words it yields.
     for (u, row) in list.iter().enumerate() {
         bad |= (left[u] | right[u]) ^ *row;
     }
@@ -167,8 +166,8 @@ pub fn differing(left: &[u32], right: &[u32]) -> u32
     ensures { result ≡ differing (length left.now) left.now right.now }
 {
     let mut k = 0u32;
-    for (row, other) in left.iter().zip(right) {
-        k += (*row ^ *other).count_ones();
+    for (u, row) in left.iter().enumerate() {
+        k += (*row ^ right[u]).count_ones();
     }
     k
 }
