@@ -17,8 +17,7 @@ pub fn width(measure: usize, n: usize) -> usize
     measures::size(measure, n)
 }
 
-// The table of part d, as it stands. In line: as calls the tables of a test cost a pick up to 14 instructions.
-#[inline(always)]
+// The table of part d, as it stands.
 pub fn table(area: &[u32], measure: usize, n: usize, d: usize) -> &[u32]
     requires { (n ≤ 32) × Has (width_of measure n) (length area.now) d }
     ensures table { result.now ≡ table_at (kit measure n) area.now d }
