@@ -69,9 +69,11 @@ fn compare_listed<R: Files>(
         ) => {
             let case = Case::new(file, number, Some(measure));
             let got = match recorded(rt, case, words) {
-                Some(recorded) => Outcome::Length(
-                    compare_runs::run_whole(&recorded.recording, measure, area),
-                ),
+                Some(recorded) => Outcome::Length(compare_runs::run_whole(
+                    &recorded.recording,
+                    measure,
+                    area,
+                )),
                 None => Outcome::NotRun,
             };
             tally.compare(case, got, Outcome::Length(answer));
@@ -81,7 +83,11 @@ fn compare_listed<R: Files>(
                 Ok(_) => Outcome::Refusal(None),
                 Err(outcome) => outcome,
             };
-            tally.compare(Case::new(file, number, None), got, Outcome::Refusal(refusal));
+            tally.compare(
+                Case::new(file, number, None),
+                got,
+                Outcome::Refusal(refusal),
+            );
         }
         _ => {}
     }
