@@ -32,10 +32,10 @@ use Rattle.acceptance.specs.Cases.{run, A, B, C, D, F, CasesAnswered, Anywhere, 
 pub cases_answered : CasesAnswered
 unfolding run bit link tab zeros every without both_row intersection either_row union gathered through_row compose_row compose within pair_full row_full full
     connected row_same same rows sooner later after apart arrive_by depart_by arrival departure arrivals departures compose_times own_time own_times in_time
-    row_in_time all_in_time allowed clean_row clean lent_pick clean_pick clean_picks size_of stored_size stored table own_of join_of pass_of splice part compose_at copy_at zero_at own_at
-    fresh picks_taken start_moved boundary_moved charged marked tested between ladder rebuilt joined_area joined extended_by extended written entered window_area
-    windowed judged tried cleared min_step raised_by raised again climb climbed max_step stepped reported first_of opened_area whole_verdict unions whole_start steps_of
-    whole_after whole_report whole_says
+    row_in_time all_in_time allowed clean_row clean lent_pick clean_pick clean_picks size_of stored_size stored table own_of join_of pass_of splice part
+    compose_at copy_at zero_at own_at fresh picks_taken start_moved boundary_moved charged marked tested between ladder rebuilt joined_area joined extended_by
+    extended written entered window_area windowed judged tried cleared min_step raised_by raised again climb climbed max_step stepped reported first_of
+    opened_area whole_verdict unions whole_start steps_of whole_after whole_report whole_says
 cases_answered = (refl, refl, refl, refl, refl, refl, refl, refl, refl, refl)
 
 anywhere : (n measure : ℕ) (w : List ℕ) (o : Outcome) → run n measure w ≡ o → Anywhere n measure w o
@@ -65,7 +65,8 @@ unfolding run
 right_case n measure w o e v = subst (RightCase n measure w) e (whole n measure w (zeros (needed measure n (length w / n))) v).right
 
 pub cases_right : CasesRight
-unfolding bit link tab zeros every without allowed clean_row clean lent_pick clean_pick clean_picks size_of stored_size stored table between first_of whole_verdict
+unfolding bit link tab zeros every without allowed clean_row clean lent_pick clean_pick clean_picks size_of stored_size stored table between first_of
+    whole_verdict
 cases_right = (
   right_case 2 1 A _ cases_answered.0 refl,
   right_case 2 2 A _ cases_answered.1 refl,
@@ -86,8 +87,8 @@ table_of-A = refl
 pub more_cases : MoreCases
 unfolding run bit link tab zeros every without both_row intersection either_row union gathered through_row compose_row compose within pair_full row_full full
     connected row_same same rows sooner later after apart arrive_by depart_by arrival departure arrivals departures compose_times own_time own_times in_time
-    row_in_time all_in_time allowed clean_row clean lent_pick clean_pick clean_picks size_of stored_size stored table own_of join_of pass_of splice part compose_at copy_at zero_at own_at
-    fresh picks_taken start_moved boundary_moved charged marked tested between ladder rebuilt joined_area joined extended_by extended written entered window_area
-    windowed judged tried cleared min_step raised_by raised again climb climbed max_step stepped reported first_of opened_area whole_verdict unions whole_start steps_of
-    whole_after whole_report whole_says
+    row_in_time all_in_time allowed clean_row clean lent_pick clean_pick clean_picks size_of stored_size stored table own_of join_of pass_of splice part
+    compose_at copy_at zero_at own_at fresh picks_taken start_moved boundary_moved charged marked tested between ladder rebuilt joined_area joined extended_by
+    extended written entered window_area windowed judged tried cleared min_step raised_by raised again climb climbed max_step stepped reported first_of
+    opened_area whole_verdict unions whole_start steps_of whole_after whole_report whole_says
 more_cases = (refl, refl, refl)

@@ -139,7 +139,8 @@ module _ (design : List (List ℕ)) (some : 1 ≤ length design) where
 
 pub repeated_design : RepeatedDesign
 repeated_design n measure footprint low design some m more k longer s room =
-    (is_smallest measure low).1 (smallest-repetition design some m more longer unlimited turn01 measure n footprint (omega arith) ((is_smallest measure low).0 s))
+    (is_smallest measure low).1
+    (smallest-repetition design some m more longer unlimited turn01 measure n footprint (omega arith) ((is_smallest measure low).0 s))
 
 pub repeated_common : RepeatedCommon
 repeated_common n footprint design some m more k l longer s low few room =

@@ -72,7 +72,8 @@ read_and_saved limit bytes into n m e out f =
 -- ---- recording A
 
 bytes_of-A : lent_file 2 A ≡ file_a
-unfolding file_a bit link zeros lent_pick lent_picks each link_acts row_acts table_acts change_acts pick_acts acts_at file_acts spell_all spell_file file lent_file
+unfolding file_a bit link zeros lent_pick lent_picks each link_acts row_acts table_acts change_acts pick_acts acts_at file_acts spell_all spell_file file
+    lent_file
 bytes_of-A = refl
 
 clean-A : T (clean_picks 2 A 4)

@@ -31,7 +31,7 @@ pub length_part : (E N : ℕ) (a : List ℕ) (i : ℕ) → N * E ≤ length a �
 length_part E N a i room low high = part_long a (has E N (length a) i room low high)
 
 -- a part ends before a later one begins
-ends_before : (E i j : ℕ) → 1 ≤ i → i < j → (i - 1) * E + E ≤ (j - 1) * E
+pub ends_before : (E i j : ℕ) → 1 ≤ i → i < j → (i - 1) * E + E ≤ (j - 1) * E
 ends_before E i j low h =
     let p : Has E ((j - 1) * E) i = has E (j - 1) ((j - 1) * E) i (omega arith) low (omega arith) in fits p
 

@@ -15,11 +15,11 @@ use Rattle.lists.proofs.Tab.{length-zeros}
 use Rattle.links.specs.Tables.{union}
 use Rattle.links.specs.Picks.{lent_pick, united_picks}
 use Rattle.links.proofs.Picks.{lent_long, length_united}
-use Rattle.links.proofs.Chunks.{Behind, Turn, first_words, behind_all, behind_turn, behind_none}
+use Rattle.links.proofs.Chunks.{Behind, Turn, behind_all, behind_turn, behind_none}
 use Rattle.measures.specs.Kit.{Kit, kit}
 use Rattle.measures.proofs.Words.{size_links}
-use Rattle.area.specs.Parts.{stored, table, part_size, width_of, table_at, put_part, zero_at, zeroed}
-use Rattle.area.proofs.Stored.{stored-size, table-stored, stored_lent}
+use Rattle.area.specs.Parts.{stored, table, part_size, width_of, table_at, put_part, put_table, zero_at, zeroed}
+use Rattle.area.proofs.Stored.{stored-size, table-stored}
 use Rattle.area.proofs.Laws.{put_same, put_beyond, zeroed-part}
 use Rattle.place.specs.declared.Settings.{Settings}
 use Rattle.place.specs.declared.Place.{Place}
@@ -28,7 +28,7 @@ use Rattle.place.specs.Places.{settings_of, fresh, charged, picks_taken, per_pic
 use Rattle.verdicts.specs.Verdicts.{needed}
 use Rattle.verdicts.specs.Fit.{Runs}
 use Rattle.steps.specs.Walk.{State, state, kit_of, ended, stepped}
-use Rattle.steps.specs.Fit.{Takes, Ready, Does}
+use Rattle.steps.specs.Fit.{Able, Takes, Ready, Does}
 use Rattle.steps.specs.Alike.{Alike, finished}
 use Rattle.steps.specs.Bare.{bare_step}
 use Rattle.steps.proofs.Fit.{boards_of, limit-of, charged_none}
@@ -55,13 +55,17 @@ length-unions n w zero room = length-zeros n
 length-unions n w (suc k) room = ap length (unions_united n w k) ∙ length_united n _ w 1 k (lent_long n 0 (suc k) w room (omega arith))
 
 -- t is pick 1 as code copies it
-pub unions_made : (n m : ℕ) (w t s : List ℕ) → 1 ≤ m → t ≡ take n w → s ≡ united_picks n t w 1 (m - 1) → s ≡ unions n w m
+pub unions_made : (n m : ℕ) (w t s : List ℕ) → 1 ≤ m → t ≡ lent_pick n w 0 → s ≡ united_picks n t w 1 (m - 1) → s ≡ unions n w m
 unions_made n zero w t s h e f = absurd (omega arith)
 unions_made n (suc k) w t s h e f =
     let i : suc k - 1 ≡ k = omega arith in
-    f ∙ ap₂ (λ (x : List ℕ) (y : ℕ). united_picks n x w 1 y) (e ∙ first_words n w) i ∙ sym (unions_united n w k)
+    f ∙ ap₂ (λ (x : List ℕ) (y : ℕ). united_picks n x w 1 y) e i ∙ sym (unions_united n w k)
 
 -- ---- the start
+
+pub start_uncounted : (measure n m : ℕ) {p : Place} → p ≡ fresh measure n m → p.counts.compositions.0 ≡ 0
+unfolding fresh
+start_uncounted measure n m e = ap (λ (x : Place). x.counts.compositions.0) e
 
 module _ (n measure m : ℕ) (w a : List ℕ) (f : Runs n measure m w a) where
   abbrev E : ℕ
@@ -94,15 +98,12 @@ module _ (n measure m : ℕ) (w a : List ℕ) (f : Runs n measure m w a) where
       (ap (table K.size) (sym (rw (ne_eqb measure 2 ne) (zeroed-part E (m + 4) a (m + 3) (omega arith) (omega arith)))))
 
   -- under measure 2 it is made in part m + 3
-  pub start_footprint : {p q : Place} {t b : List ℕ} {e : ℕ} → measure ≡ 2 → e ≡ E → q ≡ fresh measure n m
-      → (p ≡ charged q (m - 1)) × (t ≡ unions n w m) → b ≡ splice ((m + 2) * e) n t a → Begins n measure m w a p b
+  pub start_footprint : {p q : Place} {made : ℕ} {t b : List ℕ} → measure ≡ 2 → q ≡ fresh measure n m → p ≡ charged q made
+      → (made ≡ m - 1) × (t ≡ unions n w m) → b ≡ put_table K a (m + 3) t → Begins n measure m w a p b
   unfolding whole_start
-  start_footprint {p} {q} {t} {b} {e} two k g u h =
-      let i : m + 3 - 1 ≡ m + 2 = omega arith in
-      let size = size_links measure n (λ x. omega arith) in
-      let long : length t ≡ K.size = ap length u.1 ∙ united ∙ sym size in
-      begun (stored K t) (u.0 ∙ ap (λ (x : Place). charged x (m - 1)) g ∙ rw (eq-eqb measure 2 two)) (stored-size K t long)
-      (h ∙ ap (λ (x : ℕ). splice (x * e) n t a) (sym i) ∙ stored_lent K a (m + 3) k (sym size) t)
+  start_footprint {p} {q} {made} {t} {b} two g e u h =
+      let long : length t ≡ K.size = ap length u.1 ∙ united ∙ sym (size_links measure n (λ x. omega arith)) in
+      begun (stored K t) (e ∙ ap₂ charged g u.0 ∙ rw (eq-eqb measure 2 two)) (stored-size K t long) h
       (table-stored K t long ∙ u.1 ∙ sym (opened_list n measure m (unions n w m) a f.room (λ x. sym united) two))
 
 -- ---- the steps
@@ -146,7 +147,7 @@ module _ {p q : Place} {w a b : List ℕ} {m k : ℕ} (g : AfterPicks p w a m k 
   room = let t = g.taken in let l = limit-of g.settings in let z = g.starts.limit in omega arith
 
   -- the next step is taken
-  pub along_takes : Takes q (length b) (length pick)
+  pub along_takes : Takes q (length pick)
   along_takes =
       let c = g.comps in
       let t = g.tests in
@@ -198,7 +199,7 @@ module _ {p q : Place} {w a b : List ℕ} {m k : ℕ} (g : AfterPicks p w a m k 
   -- a step of a whole run
   pub along_bare : {r : Place} {d : List ℕ} → Does (bare_step (kit_of q.settings) pick) q b r d → AfterPicks p w a m (k + 1) r d
   along_bare {r} {d} e =
-      let f = bare_frame q pick b along_takes in
+      let f = bare_frame q pick b g.ready.able along_takes in
       along_turn (e.0 ∙ bare_place q pick b) (ap length e.1 ∙ f.0) (ap (drop ((q.settings.limit + 4) * part_size (kit_of q.settings))) e.1 ∙ f.1)
 
 -- the state after one pick more
@@ -246,8 +247,8 @@ module _ {p q : Place} {w a rest b : List ℕ} {m k : ℕ} (g : Bared p w a m k 
       → Turn {m = m} g.after.starts.words g.behind x rest'
   bared_turn some e l = behind_turn g.after.starts.words g.behind some e l
 
-  pub bared_takes : {x rest' : List ℕ} → Turn g.after.starts.words g.behind x rest' → Takes q (length b) (length x)
-  bared_takes t = subst (λ (x : List ℕ). Takes q (length b) (length x)) (sym t.pick) (along_takes g.after t.more)
+  pub bared_takes : {x rest' : List ℕ} → Turn g.after.starts.words g.behind x rest' → Takes q (length x)
+  bared_takes t = subst (λ (x : List ℕ). Takes q (length x)) (sym t.pick) (along_takes g.after t.more)
 
   pub bared_next : {x rest' d : List ℕ} {r : Place} → Turn g.after.starts.words g.behind x rest' → Does (bare_step (kit_of q.settings) x) q b r d
       → Bared p w a m (k + 1) rest' r d
@@ -294,9 +295,9 @@ module _ (p : Place) (w a b : List ℕ) (m : ℕ) (sa : Starts p m w a) (sb : St
       let q = (bare k).place in
       let pick = lent_pick p.settings.boards w k in
       let kl : kit_of q.settings ≡ kit_of p.settings = ap kit_of g.left.settings in
-      let tr : Takes q (length (walk k).area) (length pick) =
-      subst (λ (y : Place). Takes y (length (walk k).area) (length pick)) (sym g.same) (along_takes (walked p w b m sb k (omega arith)) (omega arith)) in
-      let n = bare_walks q pick (bare k).area (walk k).area (along_takes g.left (omega arith)) tr g.still in
+      let able : Able q.settings (length (walk k).area) =
+      subst (λ (y : Place). Able y.settings (length (walk k).area)) (sym g.same) (walked p w b m sb k (omega arith)).ready.able in
+      let n = bare_walks q pick (bare k).area (walk k).area g.left.ready.able able (along_takes g.left (omega arith)) g.still in
       let e : ((bare_step (kit_of p.settings) pick (bare k)).place ≡ (stepped (kit_of p.settings) pick (walk k)).place)
       × StillAlike (bare_step (kit_of p.settings) pick (bare k)).place (bare_step (kit_of p.settings) pick (bare k)).area
       (stepped (kit_of p.settings) pick (walk k)).area =

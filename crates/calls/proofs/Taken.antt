@@ -8,12 +8,15 @@ use lib.ListN.{length}
 use Rattle.place.specs.declared.Place.{Place}
 use Rattle.verdicts.specs.Verdicts.{pick_verdict}
 use Rattle.verdicts.specs.Fit.{Admitted}
-use Rattle.steps.specs.Fit.{Takes}
+use Rattle.steps.specs.Fit.{Able, Takes}
 use Rattle.steps.specs.Walk.{state, kit_of, stepped}
-use Rattle.steps.proofs.Ready.{sound_takes}
+use Rattle.steps.proofs.Ready.{sound_ready, sound_takes}
 use Rattle.calls.specs.Calls.{pick_state}
 
-pub admitted_takes : {p : Place} {a w : List ℕ} → Admitted p a w → Takes p (length a) (length w)
+pub admitted_able : {p : Place} {a w : List ℕ} → Admitted p a w → Able p.settings (length a)
+admitted_able t = (sound_ready t.sound t.room).able
+
+pub admitted_takes : {p : Place} {a w : List ℕ} → Admitted p a w → Takes p (length w)
 admitted_takes t = sound_takes t.sound t.room t.below (sym t.shape)
 
 -- one that nothing refuses: a step

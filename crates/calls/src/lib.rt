@@ -1,13 +1,13 @@
 // The calls of the walk: opening, pick, length, whole run. None of the four requires anything; `whole_start` and `zero_needed`, which `decision` uses too, do.
 #![tactic(auto)]
 
-ghost use Rattle.std.specs.Prelude.{◌≡◌, ◌≢◌, ◌-◌, ◌≤◌, length};
+ghost use Rattle.std.specs.Prelude.{◌≡◌, ◌-◌, ◌≤◌, length};
 ghost use Rattle.area.specs.Parts.{zeroed};
 ghost use Rattle.place.specs.Places.{charged};
 ghost use Rattle.verdicts.specs.Verdicts.{needed};
 ghost use Rattle.verdicts.specs.Fit.{Clears, Runs};
-ghost use Rattle.steps.specs.Walk.{kit_of, stepped, reported};
-ghost use Rattle.steps.specs.Fit.{Does};
+ghost use Rattle.steps.specs.Walk.{reported};
+ghost use Rattle.steps.specs.Makes.{walk_kit, Makes};
 ghost use Rattle.model.specs.Refusals.{number};
 ghost use Rattle.calls.specs.Answers.{outcome, handed_says, answer_says};
 ghost use Rattle.calls.specs.Fit.{Starts, Begins, Ends};
@@ -15,9 +15,10 @@ ghost use Rattle.calls.specs.Calls.{opened_area, open_says, open_leaves, pick_sa
 ghost use Rattle.calls.specs.Calls.{unions, bare_steps, whole_report, whole_says, whole_leaves};
 
 use links::LentPicks;
+use measures::Kit;
 use model::Refusal;
 use place::{Counts, Place, Settings};
-use steps::Mode;
+use steps::{Mode, Walk};
 
 // What stands against a place: the cause, and the place that 01 has handed back. That is zeros and noes for an opening, and the place as it was for a pick.
 #[derive(Clone, Copy, PartialEq, Eq)]
@@ -66,6 +67,7 @@ pub fn zero_needed(settings: Settings, area: &mut [u32])
 }
 
 // The needed words zero, and the footprint of measure 2 in part limit + 3.
+#[tactic(auto, using(measures::proofs::Words::size_links, verdicts::proofs::Verdicts::third_part), unfolding(crate::specs::Calls::opened_area))]
 fn open_area(settings: Settings, footprint: &[u32], area: &mut [u32])
     requires { Clears settings.boards settings.measure settings.limit footprint.now area.old }
     ensures { area.new ≡ opened_area settings.boards settings.measure settings.limit footprint.now area.old }
@@ -74,13 +76,11 @@ fn open_area(settings: Settings, footprint: &[u32], area: &mut [u32])
     if settings.measure != 2 {
         return;
     }
-    area::put_table(
-        area,
-        footprint,
-        settings.measure,
-        settings.boards,
-        settings.limit + 3,
-    );
+    let kit = Kit {
+        measure: settings.measure,
+        n: settings.boards,
+    };
+    area::put_table(area, footprint, kit, settings.limit + 3);
 }
 
 // Opens a walk over n boards.
@@ -115,7 +115,11 @@ pub fn pick(p: Place, area: &mut [u32], words: &[u32]) -> Result<Place, Refused>
         × (area.new ≡ pick_leaves p area.old words.now) }
 {
     match verdicts::pick_verdict(p, area, words) {
-        Ok(()) => Ok(steps::step(p, area, words, Mode::Kept)),
+        Ok(()) => {
+            let mut walk = Walk { place: p, area };
+            walk.step(words, Mode::Kept);
+            Ok(walk.place)
+        }
         Err(cause) => Err(Refused { place: p, cause }),
     }
 }
@@ -168,18 +172,21 @@ pub fn length(p: Place) -> Measured
 
 // ---- whole run
 
-// The union of the picks. Each pick after the first is one union, and the unions that were made are charged.
-fn make_footprint(p: Place, lent: &LentPicks<'_>, out: &mut [u32]) -> Place
-    requires { (lent.now.n ≡ length out.old) × (1 ≤ lent.now.m) × (lent.now.m ≤ 4096) × (p.counts.compositions.0 ≡ 0) }
-    ensures { (result ≡ charged p (lent.now.m - 1)) × (out.new ≡ unions lent.now.n lent.now.words.now lent.now.m) }
+// The union of the picks. Each pick after the first is one union, and how many were made is counted.
+fn make_footprint(lent: &LentPicks<'_>, out: &mut [u32]) -> usize
+    requires { (lent.now.n ≡ length out.old) × (1 ≤ lent.now.m) }
+    ensures { (result ≡ lent.now.m - 1) × (out.new ≡ unions lent.now.n lent.now.words.now lent.now.m) }
 {
-    out.copy_from_slice(&lent.words[..lent.n]);
-    let made = lent.unite_picks(out, 1);
-    p.charged(made)
+    let Some(first) = lent.picks().next() else {
+        return 0;
+    };
+    out.copy_from_slice(first);
+    lent.unite_picks(out, 1)
 }
 
 // The place that a whole run starts from, and all that the steps read of the area before they write it: the footprint. Only measure 2 has one, the
 // union of all picks, made in part m + 3.
+#[tactic(auto, using(measures::proofs::Words::size_links, verdicts::proofs::Verdicts::third_part, crate::proofs::Loops::start_uncounted))]
 pub fn whole_start(lent: &LentPicks<'_>, measure: usize, area: &mut [u32]) -> Place
     requires { Runs lent.now.n measure lent.now.m lent.now.words.now area.old }
     ensures { Begins lent.now.n measure lent.now.m lent.now.words.now area.old result area.new }
@@ -191,30 +198,32 @@ pub fn whole_start(lent: &LentPicks<'_>, measure: usize, area: &mut [u32]) -> Pl
         measure,
         limit: m,
     });
+    let kit = Kit { measure, n };
     if measure != 2 {
-        area::zero_part(area, measure, n, m + 3);
+        area::zero_part(area, kit, m + 3);
         return p;
     }
-    let e = area::width(measure, n);
-    let at = (m + 2) * e;
-    make_footprint(p, lent, &mut area[at..at + n])
+    let at = area::start(area, kit, m + 3);
+    let made = make_footprint(lent, &mut area[at..at + n]);
+    p.charged(made)
 }
 
 // All picks, one after the other, by the unchecked step: a count that starts at m - 1 would be refused as 16. The area is not kept, and once measure 1
 // has ended the picks that are left only count.
-fn whole_steps(p: Place, area: &mut [u32], lent: &LentPicks<'_>) -> Place
-    requires { Starts p lent.now.m lent.now.words.now area.old × (1 ≤ p.settings.boards) × (lent.now.n ≡ p.settings.boards) }
-    ensures { Does (bare_steps (kit_of p.settings) p.settings.boards lent.now.words.now lent.now.m) p area.old result area.new
-        × Ends p lent.now.m area.old result area.new }
+#[tactic(auto, unfolding(place::specs::Places::picks_taken))]
+fn whole_steps(walk: &mut Walk, lent: &LentPicks<'_>)
+    requires { Starts walk.old.place lent.now.m lent.now.words.now walk.old.area.now × (lent.now.n ≡ walk.old.place.settings.boards) }
+    ensures { Makes (bare_steps (walk_kit walk.old) walk.old.place.settings.boards lent.now.words.now lent.now.m) walk.old walk.new
+        × Ends walk.old.place lent.now.m walk.old.area.now walk.new.place walk.new.area.now }
 {
-    let mut q = p;
     for pick in lent.picks() {
+        let q = walk.place;
         if steps::is_finished(q) {
-            return q.picks_taken(lent.m - q.window.taken.0);
+            walk.place = q.picks_taken(lent.m - q.window.taken.0);
+            return;
         }
-        q = steps::step(q, area, pick, Mode::Unkept);
+        walk.step(pick, Mode::Unkept);
     }
-    q
 }
 
 // A whole run that nothing refuses. It never reads what the area held, and the needed words end zero.
@@ -224,7 +233,9 @@ fn whole_run(lent: &LentPicks<'_>, measure: usize, area: &mut [u32]) -> Answer
         × (area.new ≡ zeroed (needed measure lent.now.n lent.now.m) area.old) }
 {
     let p = whole_start(lent, measure, area);
-    let q = whole_steps(p, area, lent);
+    let mut walk = Walk { place: p, area };
+    whole_steps(&mut walk, lent);
+    let q = walk.place;
     zero_needed(p.settings, area);
     report(q)
 }

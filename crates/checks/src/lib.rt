@@ -48,7 +48,7 @@ pub fn is_listed(footprint: &[u32], words: &[u32]) -> bool
     ensures { result ≡ listed (length words.now) footprint.now words.now }
 {
     let mut bad = 0u32;
-    // By index, as `links::is_same` says.
+    // By index, as `links::differing` says.
     for (u, row) in words.iter().enumerate() {
         bad |= *row & !footprint[u];
     }

@@ -21,7 +21,7 @@ pub struct Columns<'a> {
 }
 
 impl Columns<'_> {
-    ghost use Rattle.columns.specs.Text.{decimal_of, cell_text, line5};
+    ghost use Rattle.columns.specs.Text.{cell_text, line5};
     ghost use Rattle.columns.specs.Columns.{HasRoom, Appends};
 
     // Writes a text.

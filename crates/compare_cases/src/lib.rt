@@ -38,17 +38,12 @@ pub struct Recorded<'c, 'w> {
 impl<'c, 'w> Recorded<'c, 'w> {
     // None where the recording has no boards or is too large, or the words do not hold it.
     pub fn new(case: Case<'c>, boards: usize, picks: usize, words: &'w [u32]) -> Option<Self> {
-        if boards < 1 || 32 < boards || 4096 < picks {
+        if boards < 1 {
             return None;
         }
-        Some(Recorded {
-            case,
-            recording: Recording {
-                words: words.get(..picks * boards)?,
-                boards,
-                picks,
-            },
-        })
+        let size = picks.checked_mul(boards)?;
+        let recording = Recording::new(words.get(..size)?, boards, picks)?;
+        Some(Recorded { case, recording })
     }
 }
 

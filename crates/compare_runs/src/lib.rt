@@ -5,7 +5,7 @@ ghost use Rattle.std.specs.Prelude.{◌≤◌, ◌<◌, IfSome};
 
 use calls::Answer;
 use compare_cases::Recorded;
-use compare_tallies::{Kind, Outcome, Tally};
+use compare_tallies::{Case, Kind, Outcome, Tally};
 use decision::Decision;
 use model::{Compositions, Refusal, Tests};
 use naive::Recording;
@@ -26,14 +26,9 @@ fn naive_whole(walk: &Walk<'_>) -> Outcome {
     compare_walks::naive_answer(walk, walk.whole())
 }
 
-fn compare_whole(tally: &mut Tally, recorded: &Recorded<'_, '_>, measure: usize, area: &mut [u32]) {
-    let recording = recorded.recording;
-    let got = run_whole(&recording, measure, area);
-    tally.compare(
-        recorded.case,
-        Outcome::Length(got),
-        naive_whole(&Walk { recording, measure }),
-    );
+fn compare_whole(tally: &mut Tally, case: Case<'_>, walk: &Walk<'_>, area: &mut [u32]) {
+    let got = run_whole(&walk.recording, walk.measure, area);
+    tally.compare(case, Outcome::Length(got), naive_whole(walk));
 }
 
 // The counts within the bounds: 4(m - 1) compositions and 2m tests at most; under measures 3 and 4, 3(m - 1) and exactly m.
@@ -55,22 +50,16 @@ fn bounded(counts: Counts, measure: usize, m: usize) -> Counts
     }
 }
 
-fn compare_counts(
-    tally: &mut Tally,
-    recorded: &Recorded<'_, '_>,
-    measure: usize,
-    area: &mut [u32],
-) {
-    let recording = recorded.recording;
-    let got = run_whole(&recording, measure, area);
-    let wanted = match recording.picks {
+fn compare_counts(tally: &mut Tally, case: Case<'_>, walk: &Walk<'_>, area: &mut [u32]) {
+    let got = run_whole(&walk.recording, walk.measure, area);
+    let wanted = match walk.recording.picks {
         0 => Answer::refused(Refusal::NoPick),
         m => Answer {
-            counts: bounded(got.counts, measure, m),
+            counts: bounded(got.counts, walk.measure, m),
             ..got
         },
     };
-    tally.compare(recorded.case, Outcome::Length(got), Outcome::Length(wanted));
+    tally.compare(case, Outcome::Length(got), Outcome::Length(wanted));
 }
 
 // ---- a window length
@@ -94,20 +83,14 @@ fn naive_decision(walk: &Walk<'_>, k: usize) -> Outcome
 }
 
 // Every window length from 1 to the number of picks: no recording here has more than 40.
-fn compare_decisions(
-    tally: &mut Tally,
-    recorded: &Recorded<'_, '_>,
-    measure: usize,
-    area: &mut [u32],
-) {
-    let recording = recorded.recording;
-    let walk = Walk { recording, measure };
+fn compare_decisions(tally: &mut Tally, case: Case<'_>, walk: &Walk<'_>, area: &mut [u32]) {
+    let Walk { recording, measure } = *walk;
     for k in 1..=recording.picks {
         let got = decision::decide(recording.boards, measure, recording.words, k, area);
         tally.compare(
-            recorded.case.at_part(k),
+            case.at_part(k),
             Outcome::Decision(got),
-            naive_decision(&walk, k),
+            naive_decision(walk, k),
         );
     }
 }
@@ -153,11 +136,14 @@ fn compare_table(tally: &mut Tally, recorded: &Recorded<'_, '_>, out: &mut [u32]
 
 // The cases of one kind: one, or one for each pick, window length or step of saving.
 pub fn run(tally: &mut Tally, kind: Kind, recorded: &Recorded<'_, '_>, area: &mut [u32]) {
+    let case = recorded.case;
+    let recording = recorded.recording;
+    let walk = |measure| Walk { recording, measure };
     match kind {
-        Kind::Whole(measure) => compare_whole(tally, recorded, measure, area),
+        Kind::Whole(measure) => compare_whole(tally, case, &walk(measure), area),
         Kind::Picks(measure) => compare_walks::compare_picks(tally, recorded, measure, area),
-        Kind::Counts(measure) => compare_counts(tally, recorded, measure, area),
-        Kind::Decisions(measure) => compare_decisions(tally, recorded, measure, area),
+        Kind::Counts(measure) => compare_counts(tally, case, &walk(measure), area),
+        Kind::Decisions(measure) => compare_decisions(tally, case, &walk(measure), area),
         Kind::Tables => compare_table(tally, recorded, area),
         Kind::Saves => compare_saves::compare_saves(tally, recorded, area),
     }

@@ -8,19 +8,15 @@ use compare_tallies::{Group, Outcome, Tally};
 use naive::Recording;
 use std::io::Stdout;
 
-// Writes the file of a row that is not refused, and answers its size; 0 and nothing for any other.
-fn put_wanted(edge: &Edge<usize>, words: &[u32], wanted: &mut [u8]) -> usize {
-    let boards = edge.settings;
-    let picks = words.len().checked_div(boards).unwrap_or(0);
-    if edge.refusal.is_some() || 32 < boards || 4096 < picks {
-        return 0;
+// Writes the file of a row that is not refused, and answers its size; nothing and None for any other.
+fn put_wanted(edge: &Edge<usize>, words: &[u32], wanted: &mut [u8]) -> Option<usize> {
+    if edge.refusal.is_some() {
+        return None;
     }
-    let recording = Recording {
-        words,
-        boards,
-        picks,
-    };
-    naive_file::write(wanted, &recording)
+    let boards = edge.settings;
+    let picks = words.len().checked_div(boards)?;
+    let recording = Recording::new(words, boards, picks)?;
+    Some(naive_file::write(wanted, &recording))
 }
 
 // What the call answers, the size left out where it is the wanted one.
@@ -35,7 +31,7 @@ fn run(edge: &Edge<usize>, words: &mut [u32]) -> Outcome {
     let size = put_wanted(edge, lent, &mut wanted);
     let outcome = saved_as(edge.settings, lent, edge.room, &mut marked(), &wanted);
     match outcome {
-        Outcome::Number(Ok(found)) if found == size => Outcome::Refusal(None),
+        Outcome::Number(Ok(found)) if Some(found) == size => Outcome::Refusal(None),
         Outcome::Number(Err(cause)) => Outcome::Refusal(Some(cause)),
         _ => outcome,
     }

@@ -7,6 +7,7 @@ use compare_cases::{MARK, Recorded};
 use compare_tallies::{Outcome, Tally};
 use model::Refusal;
 use naive::Recording;
+use recording::Reading;
 
 // ---- outputs of bytes
 
@@ -42,22 +43,23 @@ pub fn saved_as(n: usize, words: &[u32], room: usize, out: &mut [u8], wanted: &[
 // Reads a file, with the least limit that lets the picks through and the least room. It must be the recording that was saved: its boards, its picks, and
 // every word.
 fn read_back(recording: &Recording<'_>, file: &[u8], area: &mut [u32]) -> Outcome {
-    let limit = recording.picks.max(1);
-    let room = limit * recording.boards;
+    let Recording {
+        words,
+        boards,
+        picks,
+        ..
+    } = *recording;
+    let limit = picks.max(1);
+    let room = limit * boards;
     if area.len() < room {
         return Outcome::NotRun;
     }
     area.fill(MARK);
     match recording::read(file, limit, &mut area[..room]) {
-        Ok(read) => {
-            if read.boards == recording.boards
-                && read.picks == recording.picks
-                && area.starts_with(recording.words)
-            {
-                return Outcome::Refusal(None);
-            }
-            Outcome::Changed(None)
+        Ok(read) if read == Reading { boards, picks } && area.starts_with(words) => {
+            Outcome::Refusal(None)
         }
+        Ok(_) => Outcome::Changed(None),
         Err(cause) => Outcome::Refusal(Some(cause)),
     }
 }

@@ -1,8 +1,6 @@
 // The recording of a case, pick by pick: after each one the length and both counts, against the second implementation.
 #![tactic(auto)]
 
-ghost use Rattle.std.specs.Prelude.{◌≤◌};
-
 use calls::Answer;
 use compare_cases::Recorded;
 use compare_tallies::{Outcome, Tally};
@@ -22,7 +20,7 @@ pub fn counts_of(x: Numbers) -> Counts {
 // has another length there is no one answer.
 pub fn naive_answer(walk: &Walk<'_>, x: Numbers) -> Outcome {
     let length = walk.recording.length(walk.measure, x.m);
-    if walk.length(x) != length {
+    if x.length(walk.measure) != length {
         return Outcome::NotRun;
     }
     Outcome::Length(Answer {

@@ -26,11 +26,11 @@ use Rattle.steps.specs.Alike.{Alike}
 use Rattle.steps.specs.Bare.{bare_tested}
 use Rattle.steps.specs.declared.Mode.TheVariants.{Held}
 use Rattle.steps.specs.Modes.{held_rise, tested_from, held_step, Enters}
-use Rattle.steps.specs.Fit.{Fit, Entry, Does}
-use Rattle.steps.proofs.Fit.{boards_of, limit-of, fit_less, fit_at}
+use Rattle.steps.specs.Fit.{Able, Fit, Entry, Does}
+use Rattle.steps.proofs.Fit.{boards_of, limit-of, fit_less, able_kept}
 use Rattle.steps.proofs.Grown.{Grown, grown_on, grown_to, entered_grown, entered_near, tried_grown, tried_bound}
 use Rattle.steps.proofs.Alike.{alike_fresh, alike_entered}
-use Rattle.steps.proofs.Bare.{Kept, entered-kept, entered_fit, unkept_place, unkept_kept, tried-kept, unkept_walks}
+use Rattle.steps.proofs.Bare.{Kept, entered-kept, entered_fit, entered_able, unkept_place, unkept_kept, tried-kept, unkept_walks}
 use Rattle.calls.specs.Calls.{opened_area, unions, whole_start}
 use Rattle.calls.specs.Fit.{Starts, Begins}
 use Rattle.calls.proofs.Opened.{opened_length}
@@ -106,34 +106,37 @@ held_place K k w st = go (leb k r.place.window.taken.0)
 
 -- a test, made by the kit of the place p, that keeps the length of the area and the words beyond its parts
 abbrev Keeps : Place → (State → State) → Type 0
-Keeps p test = (r : Place) (d : List ℕ) → r.settings ≡ p.settings → Fit r (length d) 1 → Kept p d (test (state r d)).area
+Keeps p test = (r : Place) (d : List ℕ) → r.settings ≡ p.settings → Able r.settings (length d) → Fit r 1 → Kept p d (test (state r d)).area
 
 tried_keeps : (p : Place) → Keeps p (tried (kit_of p.settings))
-tried_keeps p r d e f =
+tried_keeps p r d e h f =
     subst (λ (s : Settings). (length (tried (kit_of s) (state r d)).area ≡ length d) × (drop ((s.limit + 4) * part_size (kit_of s))
-    (tried (kit_of s) (state r d)).area ≡ drop ((s.limit + 4) * part_size (kit_of s)) d)) e (tried-kept r d f)
+    (tried (kit_of s) (state r d)).area ≡ drop ((s.limit + 4) * part_size (kit_of s)) d)) e (tried-kept r d h f)
 
 unkept_keeps : (p : Place) → Keeps p (bare_tested (kit_of p.settings))
-unkept_keeps p r d e f =
+unkept_keeps p r d e h f =
     subst (λ (s : Settings). (length (bare_tested (kit_of s) (state r d)).area ≡ length d) × (drop ((s.limit + 4) * part_size (kit_of s))
-    (bare_tested (kit_of s) (state r d)).area ≡ drop ((s.limit + 4) * part_size (kit_of s)) d)) e (unkept_kept r d f)
+    (bare_tested (kit_of s) (state r d)).area ≡ drop ((s.limit + 4) * part_size (kit_of s)) d)) e (unkept_kept r d h f)
 
-module _ (p : Place) (k : ℕ) (w a : List ℕ) (t : Entry p (held_rise k p) (length a)) (shape : p.settings.boards ≡ length w) where
+module _ (p : Place) (k : ℕ) (w a : List ℕ) (h : Able p.settings (length a)) (t : Entry p (held_rise k p)) (shape : p.settings.boards ≡ length w) where
   abbrev r : State
   r = entered (kit_of p.settings) (held_rise k p) w (state p a)
 
   same_settings : r.place.settings ≡ p.settings
   same_settings = (entered_grown (kit_of p.settings) (held_rise k p) w (state p a)).settings
 
-  pub tested_fit : Fit r.place (length r.area) 1
-  tested_fit = fit_less 1 (omega arith) (entered_fit p (held_rise k p) w a t shape)
+  pub tested_fit : Fit r.place 1
+  tested_fit = fit_less 1 (omega arith) (entered_fit p (held_rise k p) w a h t shape)
+
+  pub tested_able : Able r.place.settings (length r.area)
+  tested_able = entered_able p (held_rise k p) w a h t shape
 
   held_kept : (test : State → State) → Keeps p test → Kept p a (held_step test (kit_of p.settings) k w (state p a)).area
   unfolding held_step tested_from
   held_kept test keeps =
-      let e = entered-kept p (held_rise k p) w a t shape in
+      let e = entered-kept p (held_rise k p) w a h t shape in
       cond_ind (λ (x : State). Kept p a x.area) (leb k r.place.window.taken.0) (test r) r
-      (λ o. let u = keeps r.place r.area same_settings tested_fit in (u.0 ∙ e.0, u.1 ∙ e.1)) (λ o. e)
+      (λ o. let u = keeps r.place r.area same_settings tested_able tested_fit in (u.0 ∙ e.0, u.1 ∙ e.1)) (λ o. e)
 
 -- ---- pick after pick
 
@@ -150,7 +153,7 @@ module _ {p q : Place} {w a b : List ℕ} {m k j : ℕ} (some : 1 ≤ k) (g : Af
   risen = ap (λ (x : ℕ). q.window.start.0 + val (leb k x)) g.taken ∙ held_start k q.window.start.0 j held
 
   -- the pick is taken
-  held_entry : Entry q (held_rise k q) (length b)
+  held_entry : Entry q (held_rise k q)
   held_entry =
       let c = g.comps in
       let t = g.tests in
@@ -160,7 +163,6 @@ module _ {p q : Place} {w a b : List ℕ} {m k j : ℕ} (some : 1 ≤ k) (g : Af
       let y = g.starts.limit in
       let s = risen in
       record {
-        able = g.ready.able;
         start = g.ready.start;
         ahead = omega arith;
         top = omega arith;
@@ -169,7 +171,7 @@ module _ {p q : Place} {w a b : List ℕ} {m k j : ℕ} (some : 1 ≤ k) (g : Af
         tests = omega arith;
       }
 
-  pub held_enters : Enters (Held k) q (length b) (length pick)
+  pub held_enters : Enters (Held k) q (length pick)
   held_enters = record { entry = held_entry; shape = held_shape }
 
   -- after it the same holds, by whichever test
@@ -180,7 +182,7 @@ module _ {p q : Place} {w a b : List ℕ} {m k j : ℕ} (some : 1 ≤ k) (g : Af
   held_along test keeps same {r} {d} e =
       let u = subst (λ (x : Place). HeldOn q x (held_rise k q)) (sym (e.0 ∙ same)) (held_on q k pick b held_entry.ahead) in
       let one = u.one in
-      let v = held_kept q k pick b held_entry held_shape test keeps in
+      let v = held_kept q k pick b g.ready.able held_entry held_shape test keeps in
       let i = g.taken in
       let z = g.starts.ready.able.cap in
       let y = g.starts.limit in (
@@ -257,7 +259,7 @@ beside_by x y e s t u v b c = subst (λ (z : Bool). Beside (cond x s u) (cond z 
     go true = b
     go false = c
 
-module _ (p : Place) (k : ℕ) (w a b : List ℕ) (f : Entry p (held_rise k p) (length a)) (g : Entry p (held_rise k p) (length b))
+module _ (p : Place) (k : ℕ) (w a b : List ℕ) (h : Able p.settings (length a)) (i : Able p.settings (length b)) (f : Entry p (held_rise k p))
     (shape : p.settings.boards ≡ length w) (x : Alike p a b) where
   abbrev K : Kit
   K = kit_of p.settings
@@ -269,15 +271,15 @@ module _ (p : Place) (k : ℕ) (w a b : List ℕ) (f : Entry p (held_rise k p) (
   t = entered K (held_rise k p) w (state p b)
 
   entered_beside : Beside s t
-  entered_beside = alike_entered p (held_rise k p) w a b f g shape x
+  entered_beside = alike_entered p (held_rise k p) w a b h i f shape x
 
   tested_beside : Beside (bare_tested K s) (tried K t)
   tested_beside =
       let e = entered_beside in
       let q = s.place in
       let same = (entered_grown K (held_rise k p) w (state p a)).settings in
-      let fit = fit_at e.0 refl (tested_fit p k w b g shape) in
-      let u = unkept_walks q s.area t.area (tested_fit p k w a f shape) fit e.1 in
+      let able = able_kept (ap (λ (y : Place). y.settings) e.0) (tested_able p k w b i f shape) in
+      let u = unkept_walks q s.area t.area (tested_able p k w a h f shape) able (tested_fit p k w a h f shape) e.1 in
       subst (λ (y : Place). Beside (bare_tested K s) (tried K (state y t.area))) e.0
       (subst (λ (y : Settings). Beside (bare_tested (kit_of y) s) (tried (kit_of y) (state q t.area))) same u)
 
@@ -328,9 +330,8 @@ module _ (p : Place) (k m : ℕ) (w a b : List ℕ) (some : 1 ≤ k) where
       on l r =
           let q = s.place in
           let e = old.same.0 in
-          let er : Entry q (held_rise k q) (length t.area) = subst (λ (y : Place). Entry y (held_rise k y) (length t.area)) (sym e)
-          (held_entry some r.0 r.1 h) in
-          let u = held_beside q k pick s.area t.area (held_entry some l.0 l.1 h) er (held_shape some l.0 l.1 h) old.same.1 in
+          let able : Able q.settings (length t.area) = subst (λ (y : Place). Able y.settings (length t.area)) (sym e) r.0.ready.able in
+          let u = held_beside q k pick s.area t.area l.0.ready.able able (held_entry some l.0 l.1 h) (held_shape some l.0 l.1 h) old.same.1 in
           let z = goes_on tried b j t h (tried_keeps t.place) refl r in
           let zc = z.0.comps in
           let zt = z.0.tests in
@@ -397,8 +398,8 @@ module _ {p q : Place} {w a rest b : List ℕ} {m k j : ℕ} (some : 1 ≤ k) (g
       → Turn {m = m} g.after.starts.words g.behind x rest'
   holding_turn low e l = behind_turn g.after.starts.words g.behind low e l
 
-  pub holding_enters : {x rest' : List ℕ} → Turn g.after.starts.words g.behind x rest' → Enters (Held k) q (length b) (length x)
-  holding_enters t = subst (λ (x : List ℕ). Enters (Held k) q (length b) (length x)) (sym t.pick) (held_enters some g.after g.start t.more)
+  pub holding_enters : {x rest' : List ℕ} → Turn g.after.starts.words g.behind x rest' → Enters (Held k) q (length x)
+  holding_enters t = subst (λ (x : List ℕ). Enters (Held k) q (length x)) (sym t.pick) (held_enters some g.after g.start t.more)
 
   pub holding_next : {x rest' d : List ℕ} {r : Place} → Turn g.after.starts.words g.behind x rest' → q.marks.failed ≡ false
       → Does (held_step (bare_tested (kit_of q.settings)) (kit_of q.settings) k x) q b r d → Holding p w a m k (j + 1) rest' r d

@@ -4,6 +4,8 @@ use mathlib.Core.Path.{◌≡◌, refl}
 use mathlib.Core.List.{List}
 use lib.ListN.{length}
 use Rattle.model.proofs.Causes.{none_holds, causes_none, holds_by, between_says}
+use Rattle.model.proofs.Refusals.{number_some}
+use Rattle.verdicts.proofs.Verdicts.{whole_sound}
 use Rattle.verdicts.specs.Verdicts.{whole_causes, window_causes, whole_verdict}
 use Rattle.decision.specs.Decisions.{decision_verdict}
 
@@ -16,3 +18,6 @@ decision_sound n measure w k a e =
     let s = causes_none (whole_causes n measure w a) (window_causes k m) tt e in
     let b = between_says 1 k m (holds_by refl ((none_holds (window_causes k m) tt).0 s.1).0) in
     (s.0, b.0, b.1)
+
+-- what `decide` stands on
+pub ruleset decides = (number_some, whole_sound, decision_sound)

@@ -2,7 +2,7 @@
 // nothing.
 #![tactic(auto)]
 
-ghost use Rattle.std.specs.Prelude.{◌≡◌, ◌≢◌, ◌≤◌, length, IfOk};
+ghost use Rattle.std.specs.Prelude.{◌≡◌, ◌≤◌, IfOk};
 ghost use Rattle.links.specs.Lent.{HasPicks};
 ghost use Rattle.area.specs.Parts.{zeroed};
 ghost use Rattle.verdicts.specs.Verdicts.{needed, verdict_says};
@@ -14,7 +14,7 @@ ghost use Rattle.decision.specs.Decisions.{decided_as, decision_says, decision_v
 use links::LentPicks;
 use model::Refusal;
 use place::{Counts, Place};
-use steps::Mode;
+use steps::{Mode, Walk};
 
 // Yes or no, with both counts.
 #[derive(Clone, Copy, PartialEq, Eq)]
@@ -43,18 +43,17 @@ fn decision_verdict<'a>(
 // ---- the walk held at k
 
 // The picks up to the first failure, or all. The area is not kept.
-fn hold_picks(p: Place, area: &mut [u32], lent: &LentPicks<'_>, k: usize) -> Place
-    requires { Starts p lent.now.m lent.now.words.now area.old × (1 ≤ k) × (1 ≤ p.settings.boards) × (lent.now.n ≡ p.settings.boards) }
-    ensures { Leaves p k lent.now.m lent.now.words.now area.old result area.new }
+fn hold_picks(walk: &mut Walk, lent: &LentPicks<'_>, k: usize)
+    requires { Starts walk.old.place lent.now.m lent.now.words.now walk.old.area.now × (1 ≤ k) × (lent.now.n ≡ walk.old.place.settings.boards) }
+    ensures { (walk.new.area.ghost_name ≡ walk.old.area.ghost_name)
+        × Leaves walk.old.place k lent.now.m lent.now.words.now walk.old.area.now walk.new.place walk.new.area.now }
 {
-    let mut q = p;
     for pick in lent.picks() {
-        if q.marks.failed {
-            return q;
+        if walk.place.marks.failed {
+            return;
         }
-        q = steps::step(q, area, pick, Mode::Held(k));
+        walk.step(pick, Mode::Held(k));
     }
-    q
 }
 
 // ---- the call
@@ -76,13 +75,15 @@ fn decide_run(lent: &LentPicks<'_>, measure: usize, k: usize, area: &mut [u32]) 
         × (area.new ≡ zeroed (needed measure lent.now.n lent.now.m) area.old) }
 {
     let p = calls::whole_start(lent, measure, area);
-    let q = hold_picks(p, area, lent, k);
+    let mut walk = Walk { place: p, area };
+    hold_picks(&mut walk, lent, k);
+    let q = walk.place;
     calls::zero_needed(p.settings, area);
     answer_at(q)
 }
 
 // Whether every window of k picks passes, of a recording lent whole, n words a pick; with the counts.
-#[tactic(auto, using(model::proofs::Refusals::number_some, crate::proofs::Verdicts::decision_sound, verdicts::proofs::Verdicts::whole_sound), unfolding(crate::specs::Decisions::decide_says, crate::specs::Decisions::decide_leaves))]
+#[tactic(auto, using(crate::proofs::Verdicts::decides), unfolding(crate::specs::Decisions::decide_says, crate::specs::Decisions::decide_leaves))]
 pub fn decide(
     n: usize,
     measure: usize,

@@ -10,11 +10,11 @@ use Rattle.lists.specs.Tab.{tab, zeros, kept}
 use lib.ListN.{get_or-append}
 use Rattle.lists.proofs.Tab.{length-tab, get_or-tab, tab_ext, tab_zero}
 use Rattle.times.specs.Times.{cell, rows, sooner, later, after, apart, arrive_by, arrival, arrivals, depart_by, departure, departures, compose_times}
-use Rattle.times.proofs.Rows.{cell_lt, row_le, part_length, from_start, Rowed}
+use Rattle.times.proofs.Rows.{cell_lt, part_length, row_cell, row_lent, Rowed}
 use Rattle.times.proofs.Cells.{length-rows, cell-rows}
 use Rattle.sets.specs.Marks.{some_of, set_of}
 use Rattle.folds.specs.Folds.{each, better, cross_by, crossed, gather, with_fold, fold_of, joined_row, transposed, column_set, Small, Shared}
-use Rattle.sets.proofs.Bits.{row_cell, some_none, bit-set, set_ext, set_lt}
+use Rattle.sets.proofs.Bits.{some_none, bit-set, set_ext, set_lt}
 use Rattle.folds.proofs.Better.{better_none, better_assoc, better_comm, better_self}
 
 -- ---- the loops
@@ -56,10 +56,10 @@ fold_empty late n t e q = q ∙ sym (tab_zero n) ∙ tab_ext _ _ n (λ v h. sym 
 -- the first row, then the others
 pub fold_first : (late : Bool) (n : ℕ) (t : List ℕ) (set w : ℕ) {left : ℕ} {row xs : List ℕ} → n ≤ 32 → w < n → T (bit set w)
     → left ≡ without set w
-    → row ≡ take (w * n + n - w * n) (drop (w * n) t) → xs ≡ tab (with_fold late n t left row) n → xs ≡ tab (gather late n t set n) n
+    → row ≡ tab (cell n t w) n → xs ≡ tab (with_fold late n t left row) n → xs ≡ tab (gather late n t set n) n
 unfolding with_fold
 fold_first late n t set w n32 h b l e q =
-    q ∙ tab_ext _ _ n (λ v m. rw (l, e, row_cell n w t v m) (sym (gather_out late n t set w v n h n32 b)))
+    q ∙ tab_ext _ _ n (λ v m. rw (l, e, get_or-tab (cell n t w) n v m) (sym (gather_out late n t set w v n h n32 b)))
 
 -- The invariant of a loop that takes in the rows of a set: out, with those of `rest`, is row₀ with all.
 pub record Folded (late : Bool) (n : ℕ) (t : List ℕ) (set : ℕ) (row₀ out : List ℕ) (rest : ℕ) : Type 0 where
@@ -74,13 +74,13 @@ module _ {late : Bool} {n : ℕ} {t : List ℕ} {set : ℕ} {row₀ out : List �
   pub folded_less : (w : ℕ) → n ≤ 32 → T (bit rest w) → without rest w < rest
   folded_less w n32 b = without_less rest w (lt_of_lt_of_le (folded_below w b) n32) b
 
-  pub folded_next : (w : ℕ) {xs : List ℕ} {left : ℕ} → n ≤ 32 → T (bit rest w) → left ≡ without rest w
-      → xs ≡ tab (each (better late) out (take (w * n + n - w * n) (drop (w * n) t))) (length out) → Folded late n t set row₀ xs left
+  pub folded_next : (w : ℕ) {row xs : List ℕ} {left : ℕ} → n ≤ 32 → T (bit rest w) → left ≡ without rest w
+      → row ≡ tab (cell n t w) n → xs ≡ tab (each (better late) out row) (length out) → Folded late n t set row₀ xs left
   unfolding with_fold
-  folded_next w {xs} {left} n32 b l e = record {
+  folded_next w {row} {xs} {left} n32 b l q e = record {
     size = m.size ∙ sym (ap length e ∙ length-tab _ _);
     small = subst (λ (x : ℕ). x < 2 ^ n) (sym l) (without_lt n rest w m.small);
-    made = λ v h. rw (l, e, get_or-tab (each (better late) out (take (w * n + n - w * n) (drop (w * n) t))) (length out) v (rw (← m.size) h), row_cell n w t v h)
+    made = λ v h. rw (l, e, get_or-tab (each (better late) out row) (length out) v (rw (← m.size) h), q, get_or-tab (cell n t w) n v h)
         (better_assoc late _ _ _ ∙ ap (better late (get_or out v 0)) (sym (gather_out late n t rest w v n (folded_below w b) n32 b)) ∙ m.made v h);
   }
 
@@ -92,21 +92,17 @@ module _ {late : Bool} {n : ℕ} {t : List ℕ} {set : ℕ} {row₀ out : List �
       sym (better_none late _) ∙ ap (better late (get_or out v 0)) (sym (rw e (gather_empty late n t v n))) ∙ m.made v h
       ∙ sym (get_or-tab (with_fold late n t set row₀) n v h))
 
--- a row with its fold, as they are lent
-pub joined_lent : (late : Bool) (n u : ℕ) (s f : List ℕ)
-    → tab (joined_row late (λ v. get_or (take (u * n + n - u * n) (drop (u * n) s)) v 0) (λ v. get_or (take (u * n + n - u * n) (drop (u * n) f)) v 0) u) n
-    ≡ tab (joined_row late (cell n s u) (cell n f u) u) n
-joined_lent late n u s f = tab_ext _ _ n (λ v h. ap₂ (λ (x y : ℕ). apart u v (better late x y)) (row_cell n u s v h) (row_cell n u f v h))
+-- a row with its fold, as they are lent: s is the half, of which the rows from u on are as they were
+pub joined_lent : (late : Bool) (n u : ℕ) (s f half : List ℕ) {row out : List ℕ} → u * n + n ≤ length s → drop (u * n) half ≡ drop (u * n) s
+    → row ≡ tab (cell n f u) n
+    → (let lent = take (u * n + n - u * n) (drop (u * n) half) in
+    out ≡ tab (joined_row late (λ v. get_or lent v 0) (λ v. get_or row v 0) u) (length lent))
+    → out ≡ tab (joined_row late (cell n s u) (cell n f u) u) n
+joined_lent late n u s f half room e q p =
+    p ∙ rw (e, ← part_length n (u * n) s room)
+    (tab_ext _ _ n (λ v h. ap₂ (λ (x y : ℕ). apart u v (better late x y)) (row_cell n u s v h) (rw q (get_or-tab (cell n f u) n v h))))
 
 -- ---- rows of folds
-
--- a row that is lent, by its words
-pub lent_row : (n u : ℕ) (xs : List ℕ) (g : ℕ → ℕ) → u * n + n ≤ length xs → ((v : ℕ) → v < n → cell n xs u v ≡ g v)
-    → take (u * n + n - u * n) (drop (u * n) xs) ≡ tab g n
-lent_row n u xs g h e =
-    let l = part_length n (u * n) xs h in
-    ext_get_or 0 (take (u * n + n - u * n) (drop (u * n) xs)) (tab g n) (sym l ∙ sym (length-tab g n))
-    (λ v b. let k : v < n = omega arith in row_cell n u xs v k ∙ e v k ∙ sym (get_or-tab g n v k))
 
 -- the fold of an earlier row with the same set
 pub same_fold : (late : Bool) (n : ℕ) (t sets : List ℕ) (u : ℕ) (folds : List ℕ) (k : ℕ) → Shared late n t sets u folds → k < u
@@ -114,7 +110,7 @@ pub same_fold : (late : Bool) (n : ℕ) (t sets : List ℕ) (u : ℕ) (folds : L
     → take (k * n + n - k * n) (drop (k * n) folds) ≡ tab (fold_of late n t sets u) n
 same_fold late n t sets u folds k s h e =
     let b : k < n = omega (arith, s.below) in
-    lent_row n k folds _ (omega (arith, row_le n b, s.room)) (λ v l. s.made k v h l ∙ ap (λ (x : ℕ). gather late n t x n v) e)
+    row_lent n k folds b s.room ∙ tab_ext _ _ n (λ v l. s.made k v h l ∙ ap (λ (x : ℕ). gather late n t x n v) e)
 
 -- the folds below u are made
 pub shared : (late : Bool) (n : ℕ) (t sets folds₀ folds : List ℕ) (u : ℕ) → n ≤ 32 → n ≤ length sets → n * n ≤ length t → n * n ≤ length folds
@@ -307,6 +303,4 @@ pub composed : (n : ℕ) (s t a d : List ℕ) → a ≡ rows n (crossed false n 
 unfolding compose_times
 composed n s t a d e f = ap₂ (λ (x y : List ℕ). x ++ y) (e ∙ crossed_arrivals n s t) f
 
-pub ruleset both_halves = (composed, from_start)
-
-pub ruleset first_rows = (row_le, bit_below, without_lt, fold_empty)
+pub ruleset first_rows = (bit_below, without_lt, fold_empty)

@@ -88,7 +88,8 @@ module _ (n : ℕ) (t : List ℕ) (n32 : n ≤ 32) (everywhere : T (connected n 
       let z = length-tab f n in
       ext_get_or 0 (tab f n) (within n most_links t) (z ∙ sym (length-within n most_links t))
       (λ u l. let h : u < n = omega arith in bits_ext 32 (get_or (tab f n) u 0) (get_or (within n most_links t) u 0)
-      (subst (λ (x : ℕ). x < 2 ^ 32) (sym (get_or-tab f n u h)) (without_32 (led_to t n) u)) (within_small n (most_links - 1) t u h) (λ v hv. same_bit u v h hv))
+      (subst (λ (x : ℕ). x < 2 ^ 32) (sym (get_or-tab f n u h)) (without_32 (led_to t n) u)) (within_small n (most_links - 1) t u h)
+      (λ v hv. same_bit u v h hv))
 
 pub everywhere_closed : (n : ℕ) (t : List ℕ) → n ≤ 32 → connected n t ≡ true → within n most_links t ≡ tab (without (any_of (λ w. get_or t w 0) n)) n
 everywhere_closed n t n32 e = sym (everywhere_within n t n32 (tr (sym e) tt))

@@ -17,7 +17,6 @@ use Rattle.model.proofs.Bits.{bit-or, bit-one, bits_ext}
 use Rattle.model.proofs.Ones.{all_in, all_out}
 use Rattle.lists.specs.Tab.{tab, kept, zeros, splice, every}
 use native.Mathlib.Numerals.{add-one}
-use Rattle.lists.proofs.Many.{one_bit}
 use Rattle.lists.proofs.Splice.{word_inside, word_after, read_inside}
 use borrow.Author.Tests.{ne_eqb as not_equal}
 use Rattle.lists.proofs.Tab.{get_or-tab, tab_ext, every_none, every-next, every_stop, every_in, every_out, every_ext}
@@ -70,7 +69,8 @@ four_more x row t k =
     let e1 : k + 1 ≡ suc k = omega arith in
     let e0 : k + 0 ≡ k = omega arith in
     ap (bit_or (gathered x row t k))
-    (get_or-tab (four_of (get_or t k 0) (get_or t (k + 1) 0) (get_or t (k + 2) 0) (get_or t (k + 3) 0)) 16 (row / 2 ^ k % 16) (mod-lt (row / 2 ^ k) (zero-lt-suc 15)))
+    (get_or-tab (four_of (get_or t k 0) (get_or t (k + 1) 0) (get_or t (k + 2) 0) (get_or t (k + 3) 0)) 16 (row / 2 ^ k % 16)
+    (mod-lt (row / 2 ^ k) (zero-lt-suc 15)))
     ∙ rw (
       bit_of_four row k 0 (omega arith),
       bit_of_four row k 1 (omega arith),
@@ -210,7 +210,8 @@ unfolding tables_from
 length-tables rows k zero = refl
 length-tables rows k (suc m) = ap suc (length-tables rows (k + 4) m)
 
-pub tables_by : (rows : List ℕ) (ts : List (List ℕ)) (m : ℕ) → length ts ≡ m → ((j : ℕ) → j < m → get_or ts j [] ≡ unions_of rows (4 * j)) → ts ≡ tables_from rows 0 m
+pub tables_by : (rows : List ℕ) (ts : List (List ℕ)) (m : ℕ) → length ts ≡ m → ((j : ℕ) → j < m → get_or ts j [] ≡ unions_of rows (4 * j))
+    → ts ≡ tables_from rows 0 m
 tables_by rows ts m e f =
     ext_get_or [] ts (tables_from rows 0 m) (e ∙ sym (length-tables rows 0 m))
     (λ j h. f j (omega arith) ∙ ap (unions_of rows) (omega arith) ∙ sym (tables-at rows 0 m j (omega arith)))
@@ -239,7 +240,7 @@ pub looked_all_eight : (ts : List (List ℕ)) (x u : ℕ) → looked_word ts x u
 unfolding looked_word
 looked_all_eight ts x u = refl
 
-pub ruleset looked_turns = (one_bit, looked_none, looked_next, looked_all_eight)
+pub ruleset looked_turns = (looked_none, looked_next, looked_all_eight)
 
 pub ruleset full_turns = (every_none, looked_turn, looked_stop)
 

@@ -47,7 +47,8 @@ lent_length w m t h = rw add-sub_cancel_left (length-take-le m (drop w t) (omega
 pub lent_columns : (x l w m : ℕ) (t : List ℕ) → w + m ≤ length t
     → let r = take (w + m - w) (drop w t) in gathered x l r (length r) ≡ gathered x l (drop w t) m
 lent_columns x l w m t h =
-    rw (lent_length w m t h) (lent_gathered x l m m (take (w + m - w) (drop w t)) (drop w t) (λ i b. rw add-sub_cancel_left (get_or-take m (drop w t) i 0 b)) (le_refl m))
+    rw (lent_length w m t h) (lent_gathered x l m m (take (w + m - w) (drop w t)) (drop w t)
+    (λ i b. rw add-sub_cancel_left (get_or-take m (drop w t) i 0 b)) (le_refl m))
 
 kept_none : (b : Bool) {x : ℕ} → x ≡ 0 → kept b x ≡ 0
 kept_none true z = z

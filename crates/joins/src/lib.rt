@@ -33,7 +33,7 @@ fn with_rows(x: u32, l: u32, rows: &[u32]) -> u32
 {
     let mut all = x;
     for (k, row) in rows.iter().enumerate() {
-        all |= lists::keep(*row, (l >> k) % 2);
+        all |= lists::keep(*row, links::linked(l, Board(k)));
     }
     all
 }
@@ -157,8 +157,7 @@ fn through(x: u32, b: Board, ts: &[[u32; 16]; 8]) -> u32
     requires { b.0 < 32 }
     ensures { result ≡ looked_word ts.now x b.0 }
 {
-    let u = b.0;
-    let row = x | (1u32 << u);
+    let row = links::with_bit(x, b);
     let mut all = row;
     for (j, table) in ts.iter().enumerate() {
         all |= look_up(table, row, j);
@@ -220,7 +219,7 @@ fn are_full(left: &[u32], ts: &[[u32; 16]; 8]) -> bool
     ensures { result ≡ every (looked_full (length left.now) ts.now left.now) (length left.now) }
 {
     let all = links::low_bits(left.len());
-    // No `all`: as in `searches::is_full`.
+    // By `all` over the numbers measure 3 costs 2 instructions a pick more where a recording is given whole.
     for (u, row) in left.iter().enumerate() {
         if through(*row, Board(u), ts) & all != all {
             return false;
@@ -254,7 +253,7 @@ fn pass_over(t: &mut [u32], b: Board)
         return;
     }
     for word in t.iter_mut() {
-        *word |= lists::keep(row, (*word >> w) % 2);
+        *word |= lists::keep(row, links::linked(*word, b));
     }
 }
 

@@ -115,7 +115,8 @@ module _ (n measure : ℕ) (w : List ℕ) (k : ℕ) (a : List ℕ) where
   held_walks e (suc j) h =
       let K = kit measure n in
       ap (unless_failed (held_step (tried K) K k (lent_pick n w j))) (held_walks e j (omega arith))
-      ∙ ap (λ (p : List ℕ). unless_failed (held_step (tried K) K k p) (held_at (whole_course n measure w a e) (list_cost measure m) k j)) (sym (lent_at n w m j h))
+      ∙ ap (λ (p : List ℕ). unless_failed (held_step (tried K) K k p) (held_at (whole_course n measure w a e) (list_cost measure m) k j))
+      (sym (lent_at n w m j h))
 
   decided_right : decision_verdict n measure w k a ≡ 0
       → RightDecision (Passes measure n (unions n w m) (lent_recording n w)) (list_cost measure m) m k (decide_says n measure w k a)

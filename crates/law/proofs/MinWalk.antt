@@ -47,7 +47,8 @@ abbrev pub TestWithin : ℕ → State → Type 0
 TestWithin c q = q.place.counts.compositions.0 + val (on_left q.place && on_right q.place) ≤ c + 2 * (m_of q - 1) + (b_of q - 1)
 
 module _ (K : Kit) (k : ℕ) (w : List ℕ) (st : State) (c : ℕ) where
-  cost_by : (x : Bool) → (T x → b_of st + 1 < s_of st + k) → ((T x → ⊥) → s_of st + k ≤ b_of st + 1) → b_of st ≤ m_of st → 1 ≤ s_of st → s_of st + k ≤ m_of st + 1
+  cost_by : (x : Bool) → (T x → b_of st + 1 < s_of st + k) → ((T x → ⊥) → s_of st + k ≤ b_of st + 1) → b_of st ≤ m_of st → 1 ≤ s_of st
+      → s_of st + k ≤ m_of st + 1
       → st.place.counts.compositions.0 ≤ c + 2 * (m_of st - 1) + (b_of st - 1) → TestWithin c (extended_by K x (written K k w st))
   unfolding extended_by rebuilt joined charged boundary_moved written start_moved picks_taken
   cost_by true hi lo bd s1 ahead h = cost_far st.place.counts.compositions.0 (b_of st) (m_of st) (s_of st + k) c bd (hi tt) ahead h

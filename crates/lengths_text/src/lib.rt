@@ -10,11 +10,12 @@ ghost use Rattle.lengths_text.specs.LengthsText.{row_of, line_of, lines_of, unde
 
 use calls::Answer;
 use columns::{Cell, Columns};
+use measures::Kit;
 use model::Refusal;
 use recording::Reading;
 
 // What a measure answers. The area must do for 40 picks, however many there are; without picks that is not asked.
-#[tactic(auto, using(area::proofs::Lent::width_most), unfolding(crate::specs::LengthsText::row_of))]
+#[tactic(auto, unfolding(crate::specs::LengthsText::row_of))]
 fn answer_of(n: usize, picks: usize, words: &[u32], measure: usize) -> Answer
     requires { n ≤ 32 }
     ensures { answer_says result ≡ row_of n picks words.now measure }
@@ -22,7 +23,7 @@ fn answer_of(n: usize, picks: usize, words: &[u32], measure: usize) -> Answer
     if picks == 0 {
         return Answer::refused(Refusal::NoPick);
     }
-    if 5676 < 44 * area::width(measure, n) {
+    if 5676 < 44 * area::width(Kit { measure, n }) {
         return Answer::refused(Refusal::Room);
     }
     let mut area = lists::zeroed::<5676>();

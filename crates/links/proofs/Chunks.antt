@@ -1,7 +1,7 @@
 -- Words lent as picks, gone through n by n, as a loop over chunks does: what is left behind the first k of m picks. Assumes nothing.
 use mathlib.Core.Path.{◌≡◌, sym, ap, ap₂, ◌∙◌}
 use mathlib.Core.List.{List, ◌++◌}
-use Prim.Native.Nat.{ℕ, zero, suc, ◌+◌, ◌-◌, ◌*◌, ◌≤◌, ◌<◌}
+use Prim.Native.Nat.{ℕ, zero, suc, ◌+◌, ◌*◌, ◌≤◌, ◌<◌}
 use native.Mathlib.Nat.{zero-mul, suc-mul, add-mul, add_comm}
 use native.Mathlib.Numerals.{add-one}
 use native.Mathlib.Omega.{arith}
@@ -16,19 +16,6 @@ pub record Behind (n m : ℕ) (w : List ℕ) (k : ℕ) (rest : List ℕ) : Type 
   pub left : ℕ
   pub all : k + left ≡ m
   pub words : rest ≡ take (left * n) (drop (k * n) w)
-
--- the words of the last m - k picks, as code lends them
-pub behind_first : (n m k : ℕ) (w : List ℕ) → k ≤ m → Behind n m w k (take (m * n - k * n) (drop (k * n) w))
-behind_first n m k w h =
-    let e : k + (m - k) ≡ m = omega arith in
-    let f : k * n + (m - k) * n ≡ m * n = sym (add-mul k (m - k) n) ∙ ap (λ (x : ℕ). x * n) e in
-    let g : m * n - k * n ≡ (m - k) * n = omega arith in
-    record { left = m - k; all = e; words = ap (λ (x : ℕ). take x (drop (k * n) w)) g }
-
--- those of pick 1
-pub first_words : (n : ℕ) (w : List ℕ) → take n w ≡ lent_pick n w 0
-unfolding lent_pick
-first_words n w = ap (λ (x : ℕ). take n (drop x w)) (sym (zero-mul n))
 
 -- the words of all m picks
 pub behind_all : (n m : ℕ) (w : List ℕ) → Behind n m w 0 (take (m * n) w)

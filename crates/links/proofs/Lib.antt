@@ -1,5 +1,6 @@
 -- Laws of the tables of links.
 pub mod Bits
+pub mod Begins
 pub mod Gather
 pub mod First
 pub mod Ways

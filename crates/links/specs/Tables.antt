@@ -10,6 +10,10 @@ use Rattle.lists.specs.Tab.{tab, kept, zeros, every, how_many_pairs}
 unfoldable pub without : ℕ → ℕ → ℕ
 without x u = bit_and x (2 ^ 32 - 1 - 2 ^ u)
 
+-- bit v, where x is not 0
+unfoldable pub mark_of : ℕ → ℕ → ℕ
+mark_of x v = kept (not (eqb x 0)) (2 ^ v)
+
 -- ---- compositions
 
 -- measure 1: links open in both

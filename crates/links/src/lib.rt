@@ -2,9 +2,10 @@
 #![tactic(auto)]
 
 ghost use Rattle.std.specs.Prelude.{◌≡◌, ◌≢◌, false, ℕ, ◌-◌, ◌*◌, ◌^◌, ◌≤◌, ◌<◌, T, length, take};
+ghost use Rattle.std.specs.Int.Bits.{bit_or};
 ghost use Rattle.model.specs.Recording.{bit};
 ghost use Rattle.lists.specs.Tab.{tab};
-ghost use Rattle.links.specs.Tables.{without, intersection, union, same, differing};
+ghost use Rattle.links.specs.Tables.{without, mark_of, intersection, union, same, differing};
 ghost use Rattle.links.specs.Picks.{united_picks};
 
 use model::Board;
@@ -28,6 +29,26 @@ pub fn cleared(x: u32, b: Board) -> u32
 {
     let v = b.0;
     x & !(1u32 << v)
+}
+
+// x, with bit b set.
+#[tactic(auto, using(lists::proofs::Many::one_bit))]
+pub fn with_bit(x: u32, b: Board) -> u32
+    requires { b.0 < 32 }
+    ensures { result ≡ bit_or x (2 ^ b.0) }
+{
+    let v = b.0;
+    x | (1u32 << v)
+}
+
+// Bit b, where x is not 0.
+#[tactic(auto, using(lists::proofs::Many::one_bit), unfolding(crate::specs::Tables::mark_of))]
+pub fn mark_of(x: u32, b: Board) -> u32
+    requires { b.0 < 32 }
+    ensures { result ≡ mark_of x b.0 }
+{
+    let v = b.0;
+    lists::keep(1u32 << v, x != 0)
 }
 
 // The first board of a set that has one.
@@ -70,6 +91,7 @@ pub struct LentPicks<'a> {
     pub words: &'a [u32],
     pub n: usize,
     pub m: usize,
+    ghost some: { 1 ≤ n },
     ghost room: { m * n ≤ length words.now },
 }
 
@@ -90,7 +112,6 @@ impl<'a> LentPicks<'a> {
 
     // The picks, one after the other.
     pub fn picks(&self) -> ChunksExact<'a, u32>
-        requires { 1 ≤ self.now.n }
         ensures size { result.size ≡ self.now.n }
         ensures rest { result.rest.now ≡ take (self.now.m * self.now.n) self.now.words.now }
     {
@@ -105,7 +126,7 @@ impl<'a> LentPicks<'a> {
     {
         let n = self.n;
         let mut made: usize = 0;
-        // By number: `chunks_exact` wants n above 0, which no caller is asked for.
+        // By number: `chunks_exact` wants the lesser of `from` and m to begin at, and costs as much.
         for k in from..self.m {
             let at = k * n;
             unite_into(out, &self.words[at..at + n]);
@@ -140,24 +161,19 @@ pub fn intersect_into(t: &mut [u32], right: &[u32])
     }
 }
 
-// ---- tests: the bits that differ are gathered, so that the loop has no branch
+// ---- tests
 
 // Whether `left` begins with the words of `right`.
-#[tactic(auto, using(crate::proofs::Gather::gathers), unfolding(crate::specs::Tables::same))]
+#[tactic(auto, using(crate::proofs::Begins::begins_same))]
 pub fn is_same(left: &[u32], right: &[u32]) -> bool
     requires { length right.now ≤ length left.now }
     ensures { result ≡ same (length right.now) left.now right.now }
 {
-    let mut bad = 0u32;
-    // By index: by `zip` here, in `differing` and in `checks::is_listed`, a pick of measure 2 costs 42 instructions more, and one that is saved 12.
-    for (u, row) in right.iter().enumerate() {
-        bad |= *row ^ left[u];
-    }
-    bad == 0
+    right == &left[..right.len()]
 }
 
-// Whether the words of a list are those of the union of left and right. The union is not written; one loop for both tests, with the other word
-// passed in as a closure, would be longer than the two.
+// Whether the words of a list are those of the union of left and right. The union is not written; the bits that differ are gathered, so that the loop
+// has no branch.
 #[tactic(auto, using(crate::proofs::Gather::gathers), unfolding(crate::specs::Tables::same))]
 pub fn is_union(list: &[u32], left: &[u32], right: &[u32]) -> bool
     requires { (length list.now ≤ length left.now) × (length list.now ≤ length right.now) }
@@ -180,6 +196,7 @@ pub fn differing(left: &[u32], right: &[u32]) -> u32
     ensures { result ≡ differing (length left.now) left.now right.now }
 {
     let mut k = 0u32;
+    // By index: by `zip` here and in `checks::is_listed` a pick of measure 2 costs 42 instructions more, and one that is saved 12.
     for (u, row) in left.iter().enumerate() {
         k += (*row ^ right[u]).count_ones();
     }

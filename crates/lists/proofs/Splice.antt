@@ -1,13 +1,13 @@
--- Laws of words put in place of others, as a part that was lent and written leaves them, and the invariant of a loop that copies. Assumes nothing.
-use mathlib.Core.Path.{◌≡◌, refl, ap, ap₂, ◌∙◌, sym}
-use mathlib.Core.List.{List, [], ◌∷◌, ◌++◌, append-nil, append_assoc}
-use Prim.Native.Nat.{ℕ, ◌+◌, ◌-◌, ◌≤◌, ◌<◌, zero-le}
+-- Laws of words put in place of others, as a part that was lent and written leaves them. Assumes nothing.
+use mathlib.Core.Path.{◌≡◌, ap, ap₂, ◌∙◌, sym}
+use mathlib.Core.List.{List, [], ◌∷◌, ◌++◌, append_assoc}
+use Prim.Native.Nat.{ℕ, ◌+◌, ◌-◌, ◌≤◌, ◌<◌}
 use native.Mathlib.Numerals.{add-one}
 use native.Mathlib.Nat.{add-zero, add_assoc, sub-zero, add-sub_cancel_left, le_refl}
 use native.Mathlib.Omega.{arith}
-use lib.ListN.{length, take, drop, set, get_or, length-append, length-drop, length-set, take-append-drop, drop_of_length-le}
+use lib.ListN.{length, take, drop, set, get_or, length-append, length-drop, take-append-drop}
 use lib.Seq.{take_at, drop_at, drop-drop, take-append-le, drop-append-le, drop-append-add, length-take-le}
-use lib.Seq.{get_or-take, get_or-drop, set_split, take-suc}
+use lib.Seq.{get_or-take, get_or-drop, set_split}
 use Rattle.lists.specs.Tab.{splice}
 
 -- what is read from the front of a list does not see its end
@@ -95,11 +95,6 @@ pub splice_none : (k : ℕ) (a : List ℕ) → a ≡ splice k 0 [] a
 unfolding splice
 splice_none k a = sym (take-append-drop k a)
 
--- all
-pub splice_whole : (e : ℕ) (xs a : List ℕ) → length a ≤ e → splice 0 e xs a ≡ xs
-unfolding splice
-splice_whole e xs a h = rw (drop_of_length-le a {i = e} h) (append-nil xs)
-
 -- ---- a part lent and written
 
 -- what `&mut a[k..k + e]` leaves
@@ -111,30 +106,3 @@ written-part k e a q = rw (q, add-sub_cancel_left)
 pub written_first : (e : ℕ) {xs ys : List ℕ} (a : List ℕ) → xs ≡ ys → xs ++ drop (e - 0) a ≡ splice 0 e ys a
 unfolding splice
 written_first e a q = rw (q, sub-zero)
-
--- and what `&x[0..e]` lends afterwards
-pub lent_first : {e : ℕ} {xs : List ℕ} (a : List ℕ) {x : List ℕ} → length xs ≡ e → x ≡ splice 0 e xs a → take (e - 0) x ≡ xs
-lent_first {e} {xs} a size q = rw (q, sub-zero) (read_inside 0 e xs a size zero-le)
-
--- The invariant of a loop that copies xs over the words of ys from word k on: t is ys with the first u words of xs there.
-pub record Copied (k : ℕ) (xs ys t : List ℕ) (u : ℕ) : Type 0 where
-  pub size : k + length xs ≤ length ys
-  pub low : u ≤ length xs
-  pub long : length t ≡ length ys
-  pub made : t ≡ splice k u (take u xs) ys
-
-pub copied_start : {k : ℕ} {xs ys : List ℕ} → k + length xs ≤ length ys → Copied k xs ys ys 0
-copied_start {k} {xs} {ys} h = record { size = h; low = zero-le; long = refl; made = splice_none k ys }
-
-module _ {k : ℕ} {xs ys t : List ℕ} {u : ℕ} (m : Copied k xs ys t u) where
-  pub copied_turn : {at : ℕ} → at ≡ k + u → u < length xs → Copied k xs ys (set t at (get_or xs u 0)) (u + 1)
-  copied_turn {at} q h =
-      let s = m.size in
-      let l : at < length t = omega (arith, m.long) in
-      let more = splice-more k u (take u xs) ys (length-take-le u xs m.low) (omega arith) at 1 (get_or xs u 0 ∷ []) q in
-      record {
-        size = s;
-        low = omega arith;
-        long = length-set t at (get_or xs u 0) ∙ m.long;
-        made = splice-set at (get_or xs u 0) t l ∙ rw (m.made, more, add-one u, take-suc xs u 0);
-      }

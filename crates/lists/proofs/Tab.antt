@@ -40,7 +40,11 @@ pub record Made (f : ℕ → ℕ) (t₀ t : List ℕ) (u : ℕ) : Type 0 where
 
 -- a turn, for a loop whose word the check does not find
 pub made_turn : {f : ℕ → ℕ} {t₀ t : List ℕ} {u v : ℕ} → Made f t₀ t u → u < length t → v ≡ f u → Made f t₀ (set t u v) (u + 1)
-made_turn m h e = record { long = grind (arith, common_steps, m.long); made = λ k l. grind (arith, common_steps, m.made k); left = λ k l. grind (arith, common_steps, m.left k) }
+made_turn m h e = record {
+  long = grind (arith, common_steps, m.long);
+  made = λ k l. grind (arith, common_steps, m.made k);
+  left = λ k l. grind (arith, common_steps, m.left k);
+}
 
 -- the loop's end
 pub made_all : {f : ℕ → ℕ} {n : ℕ} {t₀ t : List ℕ} {u : ℕ} → Made f t₀ t u → length t₀ ≡ n → n ≤ u → t ≡ tab f n

@@ -1,14 +1,14 @@
 // Words selected, or-ed, copied and set to zero.
 #![tactic(auto)]
 
-ghost use Rattle.std.specs.Prelude.{◌≡◌, ◌≤◌, length, get_or, eqb};
+ghost use Rattle.std.specs.Prelude.{◌≡◌, ◌≤◌, length, get_or};
 ghost use Rattle.lists.specs.Tab.{kept, any_of, zeros, splice};
 
-// x where a bit is 1, else 0: a select, so that a loop over it has no branch.
-pub fn keep(x: u32, digit: u32) -> u32
-    ensures { result ≡ kept (eqb digit 1) x }
+// x where `yes` holds, else 0: a select, so that a loop over it has no branch.
+pub fn keep(x: u32, yes: bool) -> u32
+    ensures { result ≡ kept yes x }
 {
-    if digit == 1 { x } else { 0 }
+    if yes { x } else { 0 }
 }
 
 // The words, or-ed.

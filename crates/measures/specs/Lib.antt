@@ -1,2 +1,3 @@
 -- Definitions that the contracts of `measures` cite.
 pub mod Kit
+pub mod Meant

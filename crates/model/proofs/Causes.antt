@@ -21,11 +21,6 @@ pub cause_next : {x : Bool} (c : ℕ) (cs : Causes) {r : ℕ} → x ≡ false �
 unfolding first_of
 cause_next c cs e g = rw (e, g)
 
--- the first test that holds decides
-pub cause_here : {x : Bool} {c : ℕ} (cs : Causes) → x ≡ true → c ≡ first_of ((x, c) ∷ cs)
-unfolding first_of
-cause_here cs e = rw e
-
 -- nothing refuses exactly where every test fails
 pub none_holds : (cs : Causes) → T (numbered cs) → (first_of cs ≡ 0) ↔ NoneHolds cs
 unfolding first_of

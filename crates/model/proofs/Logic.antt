@@ -151,7 +151,3 @@ module _ (Q : ℕ → Type 0) (i j : ℕ) (dec : (x : ℕ) → i ≤ x → x ≤
 -- the first holds, so the second decides
 pub and_step : {a b c : Bool} → a ≡ true → c ≡ b → c ≡ (a && b)
 and_step e g = rw (e, g)
-
--- the first does not hold
-pub and_stop : {a : Bool} (b : Bool) → a ≡ false → false ≡ (a && b)
-and_stop b e = rw e

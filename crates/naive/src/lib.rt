@@ -2,7 +2,7 @@
 // A measure stays a number, 1 to 4: 01 hands numbers, and cause 2 refuses others, so none of them comes here.
 #![tactic(auto)]
 
-ghost use Rattle.std.specs.Prelude.{◌≤◌, ◌<◌};
+ghost use Rattle.std.specs.Prelude.{◌≡◌, ◌≤◌, ◌<◌, IfSome};
 
 // ---- boards
 
@@ -53,6 +53,20 @@ pub struct Window<'a> {
 }
 
 impl<'a> Recording<'a> {
+    // None where it has more boards or picks than 01 allows.
+    pub fn new(words: &'a [u32], boards: usize, picks: usize) -> Option<Recording<'a>>
+        ensures { IfSome result (λ x. (x.words.now ≡ words.now) × ((x.boards ≡ boards) × (x.picks ≡ picks))) }
+    {
+        if 32 < boards || 4096 < picks {
+            return None;
+        }
+        Some(Recording {
+            words,
+            boards,
+            picks,
+        })
+    }
+
     pub fn window(&self, start: usize, end: usize) -> Window<'a>
         requires { end ≤ 4096 }
     {

@@ -109,6 +109,19 @@ impl Numbers {
     {
         usize::from(self.s <= self.b && self.b < self.m)
     }
+
+    // ---- the length
+
+    // "Passed: the length is m - s + 1. Failed with s above 1: the length is m - s + 2", but under measure 1. Else there is none.
+    pub fn length(self, measure: usize) -> Option<usize> {
+        if self.passed {
+            Some(self.m + 1 - self.s)
+        } else if measure != 1 && 1 < self.s {
+            Some(self.m + 2 - self.s)
+        } else {
+            None
+        }
+    }
 }
 
 impl Walk<'_> {
@@ -199,17 +212,6 @@ impl Walk<'_> {
             x = self.step(x);
         }
         x
-    }
-
-    // "Passed: the length is m - s + 1. Failed with s above 1: the length is m - s + 2", but under measure 1. Else there is none.
-    pub fn length(&self, x: Numbers) -> Option<usize> {
-        if x.passed {
-            Some(x.m + 1 - x.s)
-        } else if self.measure != 1 && 1 < x.s {
-            Some(x.m + 2 - x.s)
-        } else {
-            None
-        }
     }
 
     // ---- request A1 of 02: the window held at k

@@ -125,6 +125,9 @@ refused_back p a w r f g =
     let s = refused_state (place_of p) a w (ap (λ (k : ℕ). eqb k 0) (sym v) ∙ number_some r.cause) in
     ap₂ handed_as v (sym (words_back p f) ∙ ap (λ (st : State). words_of st.place) (sym s))
 
+-- what `nookmallow_pick` stands on
+pub ruleset picked = (pick_narrow, refused_back)
+
 -- ---- length
 
 -- a length is at most one more than the picks

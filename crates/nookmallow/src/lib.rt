@@ -46,7 +46,7 @@ pub fn nookmallow_open(
 }
 
 // Takes a pick.
-#[tactic(auto, using(crate::proofs::Bounds::pick_narrow, crate::proofs::Bounds::refused_back), unfolding(crate::specs::Boundary::pick_answers, crate::specs::Boundary::pick_keeps))]
+#[tactic(auto, using(crate::proofs::Bounds::picked), unfolding(crate::specs::Boundary::pick_answers, crate::specs::Boundary::pick_keeps))]
 pub fn nookmallow_pick(p: PlaceWords, area: &mut [u32], words: &[u32]) -> HandedWords
     ensures { (result ≡ pick_answers p area.old words.now) × (area.new ≡ pick_keeps p area.old words.now) }
 {

@@ -79,7 +79,8 @@ module _ (c : Course) (pass : ℕ → ℕ → Bool) (agrees : PassAgrees (tables
 
   -- a pick that is taken: no test has failed before
   pick_held : (j : ℕ) → suc j ≤ length picks → (T (held_at c x k j).place.marks.failed → ⊥)
-      → numbers_of (held_step (tried (kit_in c)) (kit_in c) k (pick_at picks (suc j)) (held_at c x k j)).place ≡ hold_pick pass k (numbers_of (held_at c x k j).place)
+      → numbers_of (held_step (tried (kit_in c)) (kit_in c) k (pick_at picks (suc j)) (held_at c x k j)).place
+      ≡ hold_pick pass k (numbers_of (held_at c x k j).place)
   pick_held j h f =
       let st = held_at c x k j in
       let a = held_after_lem c x k some j (omega arith) in

@@ -28,16 +28,6 @@ pub or_right : (a b : Bool) → a ≡ false → (a || b) ≡ true → b ≡ true
 or_right true b e g = absurd (subst T e tt)
 or_right false b e g = g
 
--- ---- the mark of failure after a test
-
-pub mark_failed : (f x : Bool) → x ≡ false → true ≡ (f || not x)
-mark_failed true x e = refl
-mark_failed false x e = rw e
-
-pub mark_passed : (f x : Bool) → x ≡ true → f ≡ (f || not x)
-mark_passed true x e = refl
-mark_passed false x e = rw e
-
 -- ---- cause 16, read off
 
 between_low : (low x high : ℕ) → between low x high ≡ true → low ≤ x

@@ -2,7 +2,8 @@
 #![tactic(auto)]
 
 ghost use Rattle.std.specs.Prelude.{◌≡◌, ◌≤◌};
-ghost use Rattle.place.specs.Places.{fresh, most_counted, picks_taken, start_moved, boundary_moved, charged, tested, in_range, sound_window, sound_start, sound_marks, sound_counts, sound_place};
+ghost use Rattle.place.specs.Places.{fresh, most_counted, picks_taken, start_moved, boundary_moved, charged, tested};
+ghost use Rattle.place.specs.Places.{in_range, sound_window, sound_start, sound_marks, sound_counts, sound_place};
 
 use model::{Compositions, Pick, Tests};
 
@@ -85,54 +86,34 @@ impl Counts {
     };
 }
 
+// The fresh place of a measure, which no `const fn` may give a constant.
+macro_rules! fresh {
+    ($measure:literal) => {
+        Place {
+            settings: Settings {
+                boards: 0,
+                measure: $measure,
+                limit: 0,
+            },
+            window: Window::FIRST,
+            marks: TestMarks::NONE,
+            counts: Counts::NONE,
+        }
+    };
+}
+
 impl Place {
     // The fresh value of measure 1. Boards and limit are filled in at opening.
-    pub const COMMON: Place = Place {
-        settings: Settings {
-            boards: 0,
-            measure: 1,
-            limit: 0,
-        },
-        window: Window::FIRST,
-        marks: TestMarks::NONE,
-        counts: Counts::NONE,
-    };
+    pub const COMMON: Place = fresh!(1);
 
     // The fresh value of measure 2, which 01 calls return.
-    pub const FOOTPRINT: Place = Place {
-        settings: Settings {
-            boards: 0,
-            measure: 2,
-            limit: 0,
-        },
-        window: Window::FIRST,
-        marks: TestMarks::NONE,
-        counts: Counts::NONE,
-    };
+    pub const FOOTPRINT: Place = fresh!(2);
 
     // The fresh value of measure 3.
-    pub const REACH: Place = Place {
-        settings: Settings {
-            boards: 0,
-            measure: 3,
-            limit: 0,
-        },
-        window: Window::FIRST,
-        marks: TestMarks::NONE,
-        counts: Counts::NONE,
-    };
+    pub const REACH: Place = fresh!(3);
 
     // The fresh value of measure 4.
-    pub const ROUND_TRIP: Place = Place {
-        settings: Settings {
-            boards: 0,
-            measure: 4,
-            limit: 0,
-        },
-        window: Window::FIRST,
-        marks: TestMarks::NONE,
-        counts: Counts::NONE,
-    };
+    pub const ROUND_TRIP: Place = fresh!(4);
 
     // Zeros and noes: what a refused opening hands back.
     pub const NOWHERE: Place = Place {

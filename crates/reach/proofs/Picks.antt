@@ -1,18 +1,17 @@
 -- The table of reach, pick by pick, and what a verdict says. Assumes nothing.
 use mathlib.Core.Path.{◌≡◌, refl, sym, ap, ap₂, ◌∙◌}
 use mathlib.Core.List.{List, [], ◌∷◌, ◌++◌}
-use Prim.Native.Nat.{ℕ, suc, ◌+◌, ◌-◌, ◌*◌, ◌/◌, ◌≤◌, ◌<◌}
-use native.Mathlib.Nat.{one-mul, le_refl, mul-le-mul_right}
+use Prim.Native.Nat.{ℕ, suc, ◌+◌, ◌*◌, ◌/◌, ◌≤◌, ◌<◌}
+use native.Mathlib.Nat.{le_refl}
 use native.Mathlib.Numerals.{add-one}
 use native.Mathlib.Omega.{arith}
 use lib.Dec.{T}
-use lib.ListN.{length, take, drop}
-use lib.Seq.{length-take-le}
+use lib.ListN.{length, take}
 use Rattle.model.proofs.Causes.{none_holds, between_says, in-range, holds_by, not_of_true}
 use Rattle.links.specs.Tables.{compose, within}
 use Rattle.links.specs.Composed.{composed_from, composed, reach}
 use Rattle.links.specs.Picks.{lent_pick}
-use Rattle.links.proofs.Chunks.{Behind, first_words, behind_first, behind_turn, behind_none}
+use Rattle.links.proofs.Chunks.{Behind, behind_all, behind_turn, behind_none}
 use Rattle.checks.specs.Lent.{lent_picks, clean_picks}
 use Rattle.checks.proofs.Lent.{length_lent}
 use Rattle.verdicts.proofs.Verdicts.{true_of, not_short, long_enough, lent_sound, lent_none}
@@ -91,13 +90,14 @@ pub record Reached (n h m : ℕ) (w : List ℕ) (k : ℕ) (rest out : List ℕ) 
   pub behind : Behind n m w k rest
   pub table : out ≡ reach n h (lent_picks n w k)
 
-pub reached_first : {n h m : ℕ} {w out : List ℕ} → m * n ≤ length w → 1 ≤ m → (let p = take n w in out ≡ within (length p) h p)
-    → Reached n h m w 1 (take (m * n - n) (drop n w)) out
-reached_first {n} {h} {m} {w} room l e = record {
-  some = le_refl 1;
-  behind = rw one-mul at (behind_first n m 1 w l);
-  table = rw (length-take-le n w (omega (arith, mul-le-mul_right n l))) at e ∙ ap (within n h) (first_words n w) ∙ sym (reach_first n h w);
-}
+pub reached_first : {n h m : ℕ} {w rest rest' out : List ℕ} (p : List ℕ) → m * n ≤ length w → 1 ≤ n → rest ≡ take (m * n) w → rest ≡ p ++ rest'
+    → length p ≡ n → out ≡ within (length p) h p → Reached n h m w 1 rest' out
+reached_first {n} {h} {m} {w} p room some r e l c =
+    let t = behind_turn room (behind_all n m w) some (sym r ∙ e) l in record {
+      some = le_refl 1;
+      behind = t.behind;
+      table = rw l at c ∙ ap (within n h) t.pick ∙ sym (reach_first n h w);
+    }
 
 pub reached_turn : {n h m k : ℕ} {w rest out rest' out' : List ℕ} (p : List ℕ) → m * n ≤ length w → 1 ≤ n → Reached n h m w k rest out
     → rest ≡ p ++ rest' → length p ≡ n → out' ≡ compose (length p) out (within (length p) h p) → Reached n h m w (k + 1) rest' out'

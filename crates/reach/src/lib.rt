@@ -26,12 +26,15 @@ fn add_pick(out: &mut [u32], pick: &[u32])
 
 // The table of the picks, from the first one on.
 fn write_table(out: &mut [u32], lent: &LentPicks<'_>)
-    requires { (1 ≤ lent.now.n) × (lent.now.n ≤ 32) × (lent.now.n ≡ length out.old) × (1 ≤ lent.now.m) }
+    requires { (lent.now.n ≤ 32) × (lent.now.n ≡ length out.old) × (1 ≤ lent.now.m) }
     ensures { out.new ≡ reach lent.now.n hops01 (lent_picks lent.now.n lent.now.words.now lent.now.m) }
 {
-    let n = lent.n;
-    joins::close_over(out, &lent.words[..n]);
-    for pick in lent.words[n..lent.m * n].chunks_exact(n) {
+    let mut picks = lent.picks();
+    let Some(first) = picks.next() else {
+        return;
+    };
+    joins::close_over(out, first);
+    for pick in picks {
         add_pick(out, pick);
     }
 }

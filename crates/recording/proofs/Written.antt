@@ -138,5 +138,5 @@ module _ {bytes : List ℕ} {n limit : ℕ} {whole : Content} {writes : Bool} {o
           front = rw words_snoc (put_kept writes (words a.picks) links out₀ out (count * length links) (rw w a.long) a.front);
         }
 
-    pub underway_end : x ≡ Ok End → GoneOver writes whole out₀ (Ok (record { boards = length links; picks = count; end = at + 1 })) out
+    pub underway_end : x ≡ Ok End → GoneOver writes whole out₀ (Ok (record { reading = record { boards = length links; picks = count }; end = at + 1 })) out
     underway_end q = rw (sym (turn q)) record { says = rw (w, a.counted); leaves = a.front }

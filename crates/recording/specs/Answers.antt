@@ -32,7 +32,7 @@ reading_says (Ok r) = read 0 r.boards r.picks
 reading_says (Err c) = read (number c) 0 0
 
 abbrev pub part_says : Result Part Refusal → ReadAt
-part_says (Ok p) = read_at 0 p.boards p.picks p.end
+part_says (Ok p) = read_at 0 p.reading.boards p.reading.picks p.end
 part_says (Err c) = read_at (number c) 0 0 0
 
 -- ---- what the file says
@@ -42,7 +42,7 @@ file_says (ended n picks end) = read 0 n (length picks)
 file_says (refused r) = read (number r) 0 0
 
 abbrev pub part_of : Content → Result Part Refusal
-part_of (ended n picks end) = Ok (record { boards = n; picks = length picks; end = end })
+part_of (ended n picks end) = Ok (record { reading = record { boards = n; picks = length picks }; end = end })
 part_of (refused r) = Err r
 
 -- going over a recording answers what it is, and leaves its words only where it writes

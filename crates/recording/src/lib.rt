@@ -9,19 +9,18 @@ ghost use Rattle.recording.specs.Answers.{reading_says, part_says, GoneOver, rea
 use commands::Item;
 use model::{Board, Refusal};
 
-// A recording that stands from a place on: n, the number of picks, and the place behind its 45.
-#[derive(Clone, Copy, PartialEq, Eq)]
-pub struct Part {
-    pub boards: usize,
-    pub picks: usize,
-    pub end: usize,
-}
-
-// A file that is one recording: n and the number of picks.
+// A recording: n and the number of picks.
 #[derive(Clone, Copy, PartialEq, Eq)]
 pub struct Reading {
     pub boards: usize,
     pub picks: usize,
+}
+
+// A recording that stands from a place on, and the place behind its 45.
+#[derive(Clone, Copy, PartialEq, Eq)]
+pub struct Part {
+    pub reading: Reading,
+    pub end: usize,
 }
 
 // ---- a recording gone over: checked, and written where that is asked
@@ -79,9 +78,9 @@ fn go_over_commands(
                 at += 1;
             }
             Item::End => {
+                let boards = links.len();
                 return Ok(Part {
-                    boards: links.len(),
-                    picks,
+                    reading: Reading { boards, picks },
                     end: at + 1,
                 });
             }
@@ -128,6 +127,5 @@ pub fn read(bytes: &[u8], limit: usize, out: &mut [u32]) -> Result<Reading, Refu
     if go_over(bytes, 0, limit, out, false)?.end < bytes.len() {
         return Err(Refusal::Trailing);
     }
-    let Part { boards, picks, .. } = go_over(bytes, 0, limit, out, true)?;
-    Ok(Reading { boards, picks })
+    Ok(go_over(bytes, 0, limit, out, true)?.reading)
 }

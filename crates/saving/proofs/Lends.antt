@@ -1,25 +1,25 @@
--- The parts that code lends for a pick and for the one before it, and a pass over the picks. Assumes nothing.
+-- The words of a pick and of the one before it, and a pass over the picks. Assumes nothing.
 use mathlib.Core.Path.{◌≡◌, refl, sym, ap, ◌∙◌}
 use mathlib.Core.Bool.{true}
 use mathlib.Core.List.{List, [], ◌++◌}
-use Prim.Native.Nat.{ℕ, zero, suc, ◌+◌, ◌-◌, ◌*◌, ◌/◌, ◌≤◌, ◌<◌, zero-le}
-use native.Mathlib.Nat.{zero-mul, suc-mul, div-mul-le_self, le_refl}
+use Prim.Native.Nat.{ℕ, zero, suc, ◌+◌, ◌*◌, ◌≤◌, ◌<◌}
+use native.Mathlib.Nat.{le_refl}
 use native.Mathlib.Numerals.{add-one}
 use native.Mathlib.Omega.{arith}
-use lib.ListN.{length, get_or, take, drop, length-append, length-drop}
-use lib.Seq.{take_at, drop_at, drop-drop}
-use Rattle.std.proofs.lemmas.Nat.{le-div, div_below}
+use lib.ListN.{length, get_or, take}
+use Rattle.std.proofs.lemmas.List.{take-replicate}
 use Rattle.model.specs.Recording.{Clean, Recording}
 use Rattle.model.proofs.Windows.{pick-at}
+use Rattle.lists.specs.Tab.{zeros}
 use Rattle.links.specs.Picks.{lent_pick}
+use Rattle.links.proofs.Chunks.{Behind, behind_all, behind_turn, behind_none}
 use Rattle.links.proofs.Bits.{zeros-clean}
 use Rattle.model.proofs.Logic.{tr}
 use Rattle.checks.specs.Lent.{lent_picks, clean_picks}
 use Rattle.checks.proofs.Lent.{length_lent, lent-recording, lent_at}
-use Rattle.saving.specs.declared.Change.{Change}
 use Rattle.saving.specs.declared.File.{File}
-use Rattle.saving.specs.File.{links_at, acts_at}
-use Rattle.saving.specs.Changes.{pick_of, count_of, picks_of, IsChangeAt}
+use Rattle.saving.specs.File.{links_at, pick_acts, acts_at}
+use Rattle.saving.specs.Changes.{picks_of}
 
 -- neither has a forbidden bit
 pub before_clean : (n : ℕ) (picks : List (List ℕ)) → Recording n picks → (k : ℕ) → k ≤ length picks → Clean n (links_at n picks k)
@@ -30,81 +30,60 @@ pub pick_clean : (n : ℕ) (picks : List (List ℕ)) → Recording n picks → (
 pick_clean n picks r k h = pick-at n picks r (suc k) (omega arith) h
 
 module _ (l : File) where
-  pub this_pick : (k : ℕ) → k < count_of l → links_at l.lent.n (picks_of l) (suc k) ≡ lent_pick l.lent.n l.lent.words.now k
-  this_pick k h = lent_at l.lent.n l.lent.words.now (count_of l) k h
+  pub this_pick : (k : ℕ) → k < l.lent.m → links_at l.lent.n (picks_of l) (suc k) ≡ lent_pick l.lent.n l.lent.words.now k
+  this_pick k h = lent_at l.lent.n l.lent.words.now l.lent.m k h
 
-  -- the words before those of a pick
-  pub part_before : (k : ℕ) → k < count_of l → (k ≡ 0 → ⊥)
-      → take (k * l.lent.n - (k - 1) * l.lent.n) (drop ((k - 1) * l.lent.n) l.lent.words.now) ≡ links_at l.lent.n (picks_of l) k
-  unfolding lent_pick
-  part_before zero h z = absurd (z refl)
-  part_before (suc j) h z =
-      let e : suc j - 1 ≡ j = omega arith in
-      let d : suc j * l.lent.n - j * l.lent.n ≡ l.lent.n = omega (arith, suc-mul j l.lent.n) in
-      rw (e, d) (sym (this_pick j (omega arith)))
-
-  pub clean_before : (k : ℕ) → k < count_of l → Clean l.lent.n (links_at l.lent.n (picks_of l) k)
+  pub clean_before : (k : ℕ) → k < l.lent.m → Clean l.lent.n (links_at l.lent.n (picks_of l) k)
   clean_before zero h = zeros-clean l.lent.n
   clean_before (suc j) h = rw (this_pick j (omega arith)) (l.clean j (omega arith))
 
-  -- the commands of the change to a pick
-  pub change_at : {k : ℕ} {c : Change} → IsChangeAt l k c → pick_of c ≡ acts_at l.lent.n (picks_of l) k
-  unfolding acts_at
-  change_at i = rw (i.wide, i.was, i.is)
-
 -- as the check of a lent sequence finds them
-pub clean_lent : (n : ℕ) (w : List ℕ) → true ≡ clean_picks n w (length w / n) → (k : ℕ) → k < length w / n → Clean n (lent_pick n w k)
-clean_lent n w e k h =
-    let m = length w / n in
-    let r = lent-recording n w m (div-mul-le_self (length w) n) (tr e tt) m (le_refl m) in
-    rw (lent_at n w m k h) at (pick_clean n (lent_picks n w m) r k (rw length_lent h))
+pub clean_lent : (n m : ℕ) (w : List ℕ) → m * n ≤ length w → true ≡ clean_picks n w m → (k : ℕ) → k < m → Clean n (lent_pick n w k)
+clean_lent n m w room e k h =
+    let r = lent-recording n w m room (tr e tt) m (le_refl m) in rw (lent_at n w m k h) at (pick_clean n (lent_picks n w m) r k (rw length_lent h))
 
--- ---- a pass over the picks, in chunks of n words: what is left of the words after k picks
+-- ---- a pass over the picks: what is left of the words after k of them, and the links before the next one
 
-pub record Passing (n : ℕ) (w : List ℕ) (k size : ℕ) (left : List ℕ) : Type 0 where
-  pub some : 1 ≤ n
-  pub low : k ≤ length w / n
-  pub wide : size ≡ n
-  pub behind : left ≡ drop (k * n) w
+pub record Passing (l : File) (k size : ℕ) (rest was : List ℕ) : Type 0 where
+  pub wide : size ≡ l.lent.n
+  pub behind : Behind l.lent.n l.lent.m l.lent.words.now k rest
+  pub before : was ≡ links_at l.lent.n (picks_of l) k
 
-pub passing_start : {n size : ℕ} {w left : List ℕ} → (2 ≤ n) × (n ≤ 32) → size ≡ n → left ≡ w → Passing n w 0 size left
-passing_start {n} b e f = record { some = omega (arith, b.0); low = zero-le; wide = e; behind = rw (zero-mul n) f }
+pub passing_start : (l : File) {size : ℕ} {rest was : List ℕ} → size ≡ l.lent.n → rest ≡ take (l.lent.m * l.lent.n) l.lent.words.now
+    → was ≡ take l.lent.n (zeros 32) → Passing l 0 size rest was
+unfolding zeros
+passing_start l e f g = record {
+  wide = e;
+  behind = rw f (behind_all l.lent.n l.lent.m l.lent.words.now);
+  before = g ∙ take-replicate l.lent.n 32 0 l.boards.1;
+}
 
--- the chunk that comes next, with its number: the pick with so many before it
-pub record NextPick (n : ℕ) (w : List ℕ) (k i next size : ℕ) (pick more : List ℕ) : Type 0 where
-  pub number : i ≡ k
-  pub next_number : next ≡ k + 1
-  pub inside : i < length w / n
-  pub is : pick ≡ lent_pick n w i
-  pub on : Passing n w next size more
+module _ {l : File} {k size : ℕ} {rest was : List ℕ} (p : Passing l k size rest was) where
+  -- the pick that comes next, and the change to it
+  pub record NextPick (next : ℕ) (pick more : List ℕ) : Type 0 where
+    pub inside : k < l.lent.m
+    pub few : length was ≤ 32
+    pub was_clean : Clean (length was) was
+    pub is_clean : Clean (length was) pick
+    pub acts : pick_acts (length was) was pick ≡ acts_at l.lent.n (picks_of l) k
+    pub on : Passing l (k + 1) next more pick
 
-module _ {n k size : ℕ} {w left : List ℕ} (p : Passing n w k size left) where
-  -- a step of `chunks_exact` under `enumerate`
-  pub passing_turn : {R Q : Type 0} {i next size₂ : ℕ} {pick more : List ℕ}
-      → ((size₂ ≡ size) × ((left ≡ pick ++ more) × (length pick ≡ size)) × R) × (i ≡ k) × (next ≡ k + 1) × Q
-      → NextPick n w k i next size₂ pick more
-  unfolding lent_pick
-  passing_turn {i = i} {pick = pick} {more = more} t =
-      let q : pick ++ more ≡ drop (k * n) w = sym t.0.1.0 ∙ p.behind in
-      let l : length pick ≡ n = t.0.1.1 ∙ p.wide in
-      let z : (k + 1) * n ≡ k * n + n = rw add-one (suc-mul k n) in
-      let r : (k + 1) * n ≤ length w = omega (arith, simp length-append at (ap length q), length-drop (k * n) w) in
-      let h = le-div (k + 1) (length w) n p.some r in
-      rw (t.1, t.2) record {
-        number = refl;
-        next_number = refl;
-        inside = omega arith;
-        is = sym (take_at pick more n l) ∙ ap (take n) q;
-        on = record {
-          some = p.some;
-          low = h;
-          wide = t.0.0 ∙ p.wide;
-          behind = sym (drop_at pick more n l) ∙ ap (drop n) q ∙ drop-drop n (k * n) w ∙ ap (λ (j : ℕ). drop j w) (sym z);
-        };
+  pub passing_turn : {next : ℕ} {pick more : List ℕ} → next ≡ size → rest ≡ pick ++ more → length pick ≡ size → NextPick next pick more
+  unfolding acts_at
+  passing_turn {next} {pick} {more} d e f =
+      let t = behind_turn l.lent.room p.behind l.lent.some e (f ∙ p.wide) in
+      let h = t.more in
+      let b = clean_before l k h in
+      let z : length was ≡ l.lent.n = ap length p.before ∙ b.words.size in
+      let i : pick ≡ links_at l.lent.n (picks_of l) (suc k) = t.pick ∙ sym (this_pick l k h) in
+      record {
+        inside = h;
+        few = rw z l.boards.1;
+        was_clean = rw (z, p.before) b;
+        is_clean = rw (z, t.pick) (l.clean k h);
+        acts = rw (z, p.before, i) refl;
+        on = record { wide = d ∙ p.wide; behind = t.behind; before = rw add-one i };
       }
 
-  -- where no chunk is left, no pick is
-  pub passing_all : length left < size → k ≡ length w / n
-  passing_all h =
-      let z : (k + 1) * n ≡ k * n + n = rw add-one (suc-mul k n) in
-      omega (arith, div_below (length w) n (k + 1) p.some (omega (arith, ap length p.behind, length-drop (k * n) w, p.wide)), p.low)
+  pub passing_all : length rest < size → k ≡ l.lent.m
+  passing_all h = behind_none l.lent.room p.behind (rw p.wide at h)

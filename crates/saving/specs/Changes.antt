@@ -1,12 +1,11 @@
 -- What the functions that write promise, said of a change, of an output and of the words that were lent.
-use Rattle.std.specs.Prelude.{◌≡◌, Bool, List, ℕ, ◌+◌, ◌≤◌, ◌/◌, suc, length}
+use Rattle.std.specs.Prelude.{◌≡◌, Bool, List, ℕ, ◌+◌, ◌≤◌, length}
 use Rattle.checks.specs.Lent.{lent_picks}
 use Rattle.recording.specs.Grammar.{Act}
 use Rattle.saving.specs.declared.Change.{Change}
 use Rattle.saving.specs.declared.File.{File}
 use Rattle.saving.specs.declared.Output.{Output}
-use Rattle.saving.specs.Answers.{lent_file}
-use Rattle.saving.specs.File.{row_acts, table_acts, change_acts, pick_acts, links_at}
+use Rattle.saving.specs.File.{row_acts, table_acts, change_acts, pick_acts, file}
 use Rattle.saving.specs.Puts.{bytes_of, Puts}
 
 -- the commands of a change: those of the links from one board, those of all links, that open or shut; all, and the 50 behind them
@@ -34,18 +33,9 @@ pub record Appends (out after : Output) (xs : List Act) : Type 0 where
   pub there : after.bytes.ghost_name ≡ out.bytes.ghost_name
   pub made : Puts out.bytes.now after.bytes.now out.at after.at xs
 
--- how many picks were lent, which, and their file
-abbrev pub count_of : File → ℕ
-count_of l = length l.lent.words.now / l.lent.n
-
+-- the picks that were lent, and their file
 abbrev pub picks_of : File → List (List ℕ)
-picks_of l = lent_picks l.lent.n l.lent.words.now (count_of l)
+picks_of l = lent_picks l.lent.n l.lent.words.now l.lent.m
 
 abbrev pub file_of : File → List ℕ
-file_of l = lent_file l.lent.n l.lent.words.now
-
--- the change is that to the pick with k picks before it
-pub record IsChangeAt (l : File) (k : ℕ) (c : Change) : Type 0 where
-  pub wide : length c.was.now ≡ l.lent.n
-  pub was : c.was.now ≡ links_at l.lent.n (picks_of l) k
-  pub is : c.is.now ≡ links_at l.lent.n (picks_of l) (suc k)
+file_of l = file l.lent.n (picks_of l)

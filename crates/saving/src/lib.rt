@@ -1,12 +1,11 @@
 // A writer of recording files: the file of a lent sequence. Its size is worked out before the first byte is written.
 #![tactic(auto)]
 
-ghost use Rattle.std.specs.Prelude.{◌≡◌, [], ◌∷◌, ℕ, ◌+◌, ◌/◌, ◌≤◌, ◌<◌, length, slice_set};
+ghost use Rattle.std.specs.Prelude.{◌≡◌, [], ◌∷◌, ℕ, ◌+◌, ◌≤◌, ◌<◌, length, slice_set};
 ghost use Rattle.model.specs.Recording.{Clean};
 ghost use Rattle.lists.specs.Tab.{splice};
 ghost use Rattle.links.specs.Picks.{lent_pick};
 ghost use Rattle.recording.specs.Grammar.{code, sets};
-ghost use Rattle.saving.specs.File.{links_at};
 ghost use Rattle.saving.specs.Puts.{Changed};
 ghost use Rattle.saving.specs.Answers.{saving_says, save_says, save_leaves};
 
@@ -146,43 +145,23 @@ impl Change<'_> {
 struct File<'a> {
     lent: LentPicks<'a>,
     ghost boards: { (2 ≤ lent.n) × (lent.n ≤ 32) },
-    ghost few: { length lent.words.now / lent.n ≤ 4096 },
-    ghost clean: { (k : ℕ) → k < length lent.words.now / lent.n → Clean lent.n (lent_pick lent.n lent.words.now k) },
+    ghost few: { lent.m ≤ 4096 },
+    ghost clean: { (k : ℕ) → k < lent.m → Clean lent.n (lent_pick lent.n lent.words.now k) },
 }
 
-impl<'a> File<'a> {
-    ghost use Rattle.saving.specs.Changes.{count_of, picks_of, file_of, IsChangeAt};
-
-    // The links of the pick before the one with k picks before it; all are shut before the first.
-    fn links_before(&self, k: usize) -> &'a [u32]
-        requires { k < count_of self.now }
-        ensures { result.now ≡ links_at self.now.lent.n (picks_of self.now) k }
-    {
-        let n = self.lent.n;
-        if k == 0 {
-            return &SHUT[..n];
-        }
-        &self.lent.words[(k - 1) * n..k * n]
-    }
-
-    // The change to the pick with k picks before it.
-    fn change(&self, k: usize, pick: &'a [u32]) -> Change<'a>
-        requires { (k < count_of self.now) × (pick.now ≡ lent_pick self.now.lent.n self.now.lent.words.now k) }
-        ensures { IsChangeAt self.now k result }
-    {
-        Change {
-            was: self.links_before(k),
-            is: pick,
-        }
-    }
+impl File<'_> {
+    ghost use Rattle.saving.specs.Changes.{file_of};
 
     // How many bytes the file has.
     fn size(&self) -> usize
         ensures { result ≡ length (file_of self.now) }
     {
+        let mut was = &SHUT[..self.lent.n];
         let mut size: usize = 3;
-        for (k, pick) in self.lent.words.chunks_exact(self.lent.n).enumerate() {
-            size += self.change(k, pick).size();
+        for pick in self.lent.picks() {
+            let change = Change { was, is: pick };
+            size += change.size();
+            was = pick;
         }
         size
     }
@@ -195,8 +174,11 @@ impl<'a> File<'a> {
         let mut out = Output { bytes: out, at: 0 };
         out.put(0x42);
         out.put(self.lent.n as u8);
-        for (k, pick) in self.lent.words.chunks_exact(self.lent.n).enumerate() {
-            self.change(k, pick).write(&mut out);
+        let mut was = &SHUT[..self.lent.n];
+        for pick in self.lent.picks() {
+            let change = Change { was, is: pick };
+            change.write(&mut out);
+            was = pick;
         }
         out.put(0x45);
     }
@@ -205,7 +187,7 @@ impl<'a> File<'a> {
 // ---- the call
 
 // Writes the file of a lent sequence, n words a pick, and answers how many bytes it has; or says why not, and no byte changed.
-#[tactic(auto, using(model::proofs::Causes::between_says), unfolding(crate::specs::Answers::save_says, crate::specs::Answers::save_leaves))]
+#[tactic(auto, using(model::proofs::Causes::between_says), unfolding(crate::specs::Answers::save_says, crate::specs::Answers::save_leaves, crate::specs::Answers::lent_file))]
 pub fn save(n: usize, words: &[u32], out: &mut [u8]) -> Result<usize, Refusal>
     ensures { (saving_says result ≡ save_says n words.now out.old)
         × (out.new ≡ save_leaves n words.now out.old) }

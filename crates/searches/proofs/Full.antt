@@ -18,7 +18,7 @@ use Rattle.model.proofs.Bits.{bit-or, bit-and, bit-one, bit_complement}
 use Rattle.model.proofs.Ones.{bit_low, all_in, all_out}
 use Rattle.lists.specs.Tab.{every, how_many, how_many_pairs}
 use Rattle.lists.proofs.Tab.{every_in, every_out, every_none, every-next, every_stop}
-use Rattle.lists.proofs.Many.{many_ext, ones_bits, pairs_none_yet, pairs_le, row_counted, one_bit}
+use Rattle.lists.proofs.Many.{many_ext, ones_bits, pairs_none_yet, pairs_le, row_counted}
 use Rattle.links.specs.Tables.{pair_full, row_full, pair_unmarked}
 
 -- the bits of a row with its own
@@ -75,6 +75,6 @@ module _ (n : ℕ) (t : List ℕ) (u : ℕ) (h : u < n) (n32 : n ≤ 32) where
       → k + ones (bit_and (2 ^ n - 1) (2 ^ 32 - 1 - bit_or (get_or t u 0) (2 ^ u))) ≡ how_many_pairs (pair_unmarked t) n (u + 1)
   unmarked_turn k e a = row_counted (pair_unmarked t) n u e (row_unmarked n t u n32 (omega arith) (omega arith))
 
-pub ruleset full_turns = (every_none, full_turn, full_stop, one_bit)
+pub ruleset full_turns = (every_none, full_turn, full_stop)
 
-pub ruleset unmarked_turns = (pairs_none_yet, pairs_le, unmarked_turn, one_bit)
+pub ruleset unmarked_turns = (pairs_none_yet, pairs_le, unmarked_turn)

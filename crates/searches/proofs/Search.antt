@@ -20,10 +20,10 @@ use Rattle.model.proofs.Bits.{bit_zero, bit_suc, bit_high, bit-or, bit-and, bit-
 use Rattle.model.proofs.Ones.{bit_low, all_in, all_out}
 use Rattle.lists.specs.Tab.{kept}
 use Rattle.lists.proofs.Tab.{every_in, every_out}
-use Rattle.links.specs.Tables.{without, within, pair_full, row_full, full}
+use Rattle.links.specs.Tables.{mark_of, without, within, pair_full, row_full, full}
 use Rattle.links.proofs.Bits.{bit_kept, bit_left, without_less, bit_below, without_lt, below_pow}
 use Rattle.links.proofs.Ways.{Way, one, more, snoc, Short, within_way, way_short, Led, onward}
-use Rattle.searches.specs.Search.{leading, collect, side_pair, side_full}
+use Rattle.searches.specs.Search.{collect, side_pair, side_full}
 
 -- v is board 0, or links over boards below n lead from there to v, or with `back` from v to there
 abbrev Found : Bool → ℕ → List ℕ → ℕ → Type 0
@@ -64,7 +64,7 @@ meets_out row s m =
     (q.0, and_l (bit row q.0) (bit s q.0) b, and_r (bit row q.0) (bit s q.0) b)
 
 collect-step : (t : List ℕ) (s k u : ℕ) → bit (collect t s (suc k)) u ≡ bit (collect t s k) u || (meets (get_or t k 0) s && eqb k u)
-unfolding collect leading meets
+unfolding collect mark_of meets
 collect-step t s k u =
     bit-or x (kept (meets row s) (2 ^ k)) u ∙ ap (λ (b : Bool). bit x u || b) (bit_kept (meets row s) (2 ^ k) u
     ∙ ap (λ (b : Bool). meets row s && b) (bit-one k u))

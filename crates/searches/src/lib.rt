@@ -4,7 +4,7 @@
 ghost use Rattle.std.specs.Prelude.{◌≡◌, true, false, ◌≤◌, ◌<◌, length};
 ghost use Rattle.model.specs.Journey.{most_links};
 ghost use Rattle.links.specs.Tables.{within, full, connected, unmarked};
-ghost use Rattle.searches.specs.Search.{leading, collect, side_full};
+ghost use Rattle.searches.specs.Search.{collect, side_full};
 
 use model::Board;
 
@@ -15,9 +15,9 @@ pub fn is_full(t: &[u32]) -> bool
     ensures { result ≡ full (length t.now) t.now }
 {
     let all = links::low_bits(t.len());
-    // With `all` the check finds no proof: it would take an answer by hand.
+    // By `all` over the numbers a pick of measure 3 costs 3 instructions more.
     for (u, row) in t.iter().enumerate() {
-        if (*row | (1u32 << u)) & all != all {
+        if links::with_bit(*row, Board(u)) & all != all {
             return false;
         }
     }
@@ -33,7 +33,7 @@ pub fn unmarked(t: &[u32]) -> u32
     let all = links::low_bits(t.len());
     let mut k = 0u32;
     for (u, row) in t.iter().enumerate() {
-        k += (all & !(*row | (1u32 << u))).count_ones();
+        k += (all & !links::with_bit(*row, Board(u))).count_ones();
     }
     k
 }
@@ -62,16 +62,6 @@ fn reaches_all(t: &[u32]) -> bool
     s & all == all
 }
 
-// Board b, where its row leads to one of s.
-#[tactic(auto, unfolding(crate::specs::Search::leading))]
-fn board_to(s: u32, row: u32, b: Board) -> u32
-    requires { b.0 < 32 }
-    ensures { result ≡ leading s row b.0 }
-{
-    let w = b.0;
-    if row & s == 0 { 0 } else { 1u32 << w }
-}
-
 // The boards of seen, and those that a link leads from to one of them.
 #[tactic(auto, using(std::proofs::lemmas::Grind::common_steps), unfolding(crate::specs::Search::collect))]
 fn backward(t: &[u32], seen: u32) -> u32
@@ -80,7 +70,7 @@ fn backward(t: &[u32], seen: u32) -> u32
 {
     let mut s = seen;
     for (w, row) in t.iter().enumerate() {
-        s |= board_to(seen, *row, Board(w));
+        s |= links::mark_of(*row & seen, Board(w));
     }
     s
 }

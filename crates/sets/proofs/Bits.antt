@@ -1,9 +1,9 @@
--- Sets of boards as words: what is made of a lent row, and which bits it has. Assumes nothing.
+-- Sets of boards as words: what is made of a row, and which bits it has. Assumes nothing.
 use mathlib.Core.Path.{◌≡◌, refl, sym, ap, ap₂, ◌∙◌}
 use mathlib.Core.Bool.{Bool, true, false, not, ◌&&◌, ◌||◌}
 use mathlib.Core.List.{List}
-use Prim.Native.Nat.{ℕ, zero, suc, ◌+◌, ◌-◌, ◌*◌, ◌^◌, ◌≤◌, ◌<◌}
-use native.Mathlib.Nat.{add-sub_cancel_left, le_refl, eq-or-lt_of_le, le_of_suc-le-suc, lt_of_le_of_lt}
+use Prim.Native.Nat.{ℕ, zero, suc, ◌+◌, ◌^◌, ◌≤◌, ◌<◌}
+use native.Mathlib.Nat.{le_refl, eq-or-lt_of_le, le_of_suc-le-suc, lt_of_le_of_lt}
 use native.Mathlib.Numerals.{add-one}
 use native.Mathlib.Omega.{arith}
 use lib.Bits.{bit_and, bit_or, or_lt, and_le_r}
@@ -13,21 +13,15 @@ use borrow.Author.Tests.{eq-eqb, ne_eqb, eqb-true}
 use Rattle.model.proofs.Bits.{bit_high, bit-or, bit-and, bit-one, or_none}
 use Rattle.links.proofs.Bits.{bit_kept}
 use lib.Dec.{eqb}
-use lib.ListN.{length, get_or, take, drop}
-use lib.Seq.{get_or-take, get_or-drop}
+use lib.ListN.{length, get_or}
 use Rattle.model.specs.Recording.{bit}
 use Rattle.times.specs.Times.{cell}
-use Rattle.times.proofs.Rows.{row_le, part_length}
 use Rattle.lists.specs.Tab.{tab, kept, zeros, any_of}
-use Rattle.lists.proofs.Many.{one_bit}
-use Rattle.lists.proofs.Tab.{get_or-tab, tab_ext, tab_zero, made_all}
-use Rattle.sets.specs.Marks.{mark_of, marks, some_of, set_of, marked_row, own_row}
+use Rattle.links.specs.Tables.{mark_of}
+use Rattle.lists.proofs.Tab.{length-tab, get_or-tab, tab_ext, tab_zero}
+use Rattle.sets.specs.Marks.{marks, some_of, set_of, marked_row, own_row}
 
--- ---- the same of a lent row as of the table
-
--- a word of row u, as it is lent
-pub row_cell : (n u : ℕ) (half : List ℕ) (v : ℕ) → v < n → get_or (take (u * n + n - u * n) (drop (u * n) half)) v 0 ≡ cell n half u v
-row_cell n u half v h = rw (add-sub_cancel_left, get_or-take n (drop (u * n) half) v 0 h) (get_or-drop (u * n) half v 0)
+-- ---- the same of a row that is read as of the table
 
 any_ext : (f g : ℕ → ℕ) (n : ℕ) → ((v : ℕ) → v < n → f v ≡ g v) → any_of f n ≡ any_of g n
 unfolding any_of
@@ -39,15 +33,12 @@ unfolding marks
 marks_ext f g zero h = refl
 marks_ext f g (suc n) h = ap₂ (λ (x y : ℕ). bit_or x (mark_of y n)) (marks_ext f g n (λ v l. h v (omega arith))) (h n (omega arith))
 
-pub any_lent : (n u : ℕ) (half : List ℕ) → u < n → n * n ≤ length half
-    → let r = take (u * n + n - u * n) (drop (u * n) half) in any_of (λ v. get_or r v 0) (length r) ≡ any_of (cell n half u) n
-any_lent n u half h l = rw (sym (part_length n (u * n) half (omega (arith, row_le n h)))) (any_ext _ _ n (row_cell n u half))
+pub any_row : (f : ℕ → ℕ) (n : ℕ) {row : List ℕ} → row ≡ tab f n → any_of (λ v. get_or row v 0) (length row) ≡ any_of f n
+any_row f n e = rw (e, length-tab f n) (any_ext _ _ n (get_or-tab f n))
 
-pub set_lent : (n u some : ℕ) (half : List ℕ) → u < n → n * n ≤ length half
-    → let r = take (u * n + n - u * n) (drop (u * n) half) in set_of (λ v. get_or r v 0) (length r) some u ≡ set_of (cell n half u) n some u
+pub set_row : (f : ℕ → ℕ) (n some u : ℕ) {row : List ℕ} → row ≡ tab f n → set_of (λ v. get_or row v 0) (length row) some u ≡ set_of f n some u
 unfolding set_of
-set_lent n u some half h l =
-    rw (sym (part_length n (u * n) half (omega (arith, row_le n h)))) (ap (λ (x : ℕ). bit_and (bit_or x (2 ^ u)) some) (marks_ext _ _ n (row_cell n u half)))
+set_row f n some u e = rw (e, length-tab f n) (ap (λ (x : ℕ). bit_and (bit_or x (2 ^ u)) some) (marks_ext _ _ n (get_or-tab f n)))
 
 -- ---- the bits
 
@@ -111,14 +102,15 @@ pub columns_none : (n : ℕ) (half : List ℕ) → zeros n ≡ tab (λ u. marks 
 unfolding marks
 columns_none n half = sym (tab_zero n) ∙ tab_ext _ _ n (λ v h. refl)
 
--- a turn: row w is lent
-pub columns_next : (n : ℕ) (half : List ℕ) (w : ℕ) (sets : List ℕ) → sets ≡ tab (λ u. marks (λ i. cell n half i u) w) n
-    → tab (marked_row sets (λ v. get_or (take (w * n + n - w * n) (drop (w * n) half)) v 0) w) n ≡ tab (λ u. marks (λ i. cell n half i u) (w + 1)) n
+-- a turn: row w is read
+pub columns_next : (n : ℕ) (half : List ℕ) (w : ℕ) {sets row : List ℕ} → sets ≡ tab (λ u. marks (λ i. cell n half i u) w) n → row ≡ tab (cell n half w) n
+    → tab (marked_row sets (λ v. get_or row v 0) w) (length sets) ≡ tab (λ u. marks (λ i. cell n half i u) (w + 1)) n
 unfolding marks marked_row
-columns_next n half w sets e =
-    tab_ext _ _ n (λ v h.
+columns_next n half w {sets} e q =
+    rw (ap length e ∙ length-tab _ n)
+    (tab_ext _ _ n (λ v h.
     let a : get_or sets v 0 ≡ marks (λ i. cell n half i v) w = rw e (get_or-tab (λ u. marks (λ i. cell n half i u) w) n v h) in
-    rw (add-one w) (ap₂ (λ (x y : ℕ). bit_or x (mark_of y w)) a (row_cell n w half v h)))
+    rw (add-one w) (ap₂ (λ (x y : ℕ). bit_or x (mark_of y w)) a (rw q (get_or-tab (cell n half w) n v h)))))
 
 -- all of them
 pub columns_own : (n some : ℕ) (half sets : List ℕ) → sets ≡ tab (λ u. marks (λ w. cell n half w u) n) n
@@ -143,6 +135,3 @@ marks_lt f n (suc k) h = or_lt n (marks f k) (mark_of (f k) k) (marks_lt f n k (
 pub set_lt : (f : ℕ → ℕ) (n : ℕ) (t : List ℕ) (u : ℕ) → set_of f n (some_of n t) u < 2 ^ n
 unfolding set_of some_of
 set_lt f n t u = lt_of_le_of_lt (and_le_r (bit_or (marks f n) (2 ^ u)) (marks (λ w. any_of (cell n t w) n) n)) (marks_lt _ n n (le_refl n))
-
--- what the loop that adds own boards stands on
-pub ruleset own_turns = (one_bit, made_all)

@@ -1,2 +1,2 @@
--- What is made of a lent row, and which bits a set has.
+-- What is made of a row, and which bits a set has.
 pub mod Bits

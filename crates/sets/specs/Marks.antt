@@ -1,12 +1,9 @@
 -- Sets of boards, as words. A table has n rows of n times, 0 for none.
-use Rattle.std.specs.Prelude.{not, List, ℕ, zero, suc, ◌^◌, eqb, get_or}
+use Rattle.std.specs.Prelude.{List, ℕ, zero, suc, ◌^◌, get_or}
 use Rattle.std.specs.Int.Bits.{bit_and, bit_or}
-use Rattle.lists.specs.Tab.{kept, any_of}
+use Rattle.lists.specs.Tab.{any_of}
+use Rattle.links.specs.Tables.{mark_of}
 use Rattle.times.specs.Times.{cell}
-
--- bit v, where x is a time
-unfoldable pub mark_of : ℕ → ℕ → ℕ
-mark_of x v = kept (not (eqb x 0)) (2 ^ v)
 
 -- which of the first k times are some
 unfoldable pub marks : (ℕ → ℕ) → ℕ → ℕ

@@ -443,9 +443,9 @@ alike_window p a t h top size =
     put_unread p a _ (p.settings.limit + 2) h top (stored-size (kit_of p.settings) t size) (omega arith) (omega arith) (λ e. omega arith)
 
 -- and so the window itself
-pub alike_windowed : (p : Place) (a : List ℕ) {d : ℕ} → Fit p (length a) d → Alike p (windowed (kit_of p.settings) (state p a)).area a
+pub alike_windowed : (p : Place) (a : List ℕ) {d : ℕ} → Able p.settings (length a) → Fit p d → Alike p (windowed (kit_of p.settings) (state p a)).area a
 unfolding windowed
-alike_windowed p a f =
+alike_windowed p a h f =
     let K = kit_of p.settings in
     let wide = kit_wide p.settings.measure p.settings.boards in
     let x = on_left p in
@@ -453,22 +453,22 @@ alike_windowed p a f =
     let i = f.inside in
     let top = f.top in
     rw (window_put K wide x y p a)
-    (alike_window p a (window_table K x y p a) f.able top (window_wide K wide x y p a f.able.room f.start (omega arith)))
+    (alike_window p a (window_table K x y p a) h top (window_wide K wide x y p a h.room f.start (omega arith)))
 
 -- a test writes no more than the window
-pub alike_tested : (p : Place) (a : List ℕ) {d : ℕ} → Fit p (length a) d → Alike p (tried (kit_of p.settings) (state p a)).area a
+pub alike_tested : (p : Place) (a : List ℕ) {d : ℕ} → Able p.settings (length a) → Fit p d → Alike p (tried (kit_of p.settings) (state p a)).area a
 unfolding tried judged
-alike_tested p a f = alike_windowed p a f
+alike_tested p a h f = alike_windowed p a h f
 
 -- the place after a test, from the parts that it reads: no part limit + 2 is needed
-pub tried_reads : (p : Place) (a : List ℕ) {d : ℕ} → Fit p (length a) d
+pub tried_reads : (p : Place) (a : List ℕ) {d : ℕ} → Able p.settings (length a) → Fit p d
     → (tried (kit_of p.settings) (state p a)).place
     ≡ tested (charged p (val (on_left p && on_right p)))
     ((kit_of p.settings).pass (table_at (kit_of p.settings) a (p.settings.limit + 3)) (window_table (kit_of p.settings) (on_left p) (on_right p) p a))
-tried_reads p a f =
+tried_reads p a h f =
     let i = f.inside in
     let top = f.top in
-    tried_place (kit_of p.settings) (kit_wide p.settings.measure p.settings.boards) p a f.able.room f.start (omega arith)
+    tried_place (kit_of p.settings) (kit_wide p.settings.measure p.settings.boards) p a h.room f.start (omega arith)
 
 -- part limit + 4 set to zero is not told
 pub alike_spare : (p : Place) (a : List ℕ) → Able p.settings (length a) → p.window.taken.0 ≤ p.settings.limit
@@ -510,25 +510,26 @@ to_alike {K} {st} {q} t =
     )
 
 -- a pick taken in
-pub alike_entered : (p : Place) (k : ℕ) (w a b : List ℕ) → Entry p k (length a) → Entry p k (length b) → p.settings.boards ≡ length w → Alike p a b
+pub alike_entered : (p : Place) (k : ℕ) (w a b : List ℕ) → Able p.settings (length a) → Able p.settings (length b) → Entry p k
+    → p.settings.boards ≡ length w → Alike p a b
     → Agrees (entered (kit_of p.settings) k w) p a b
-alike_entered p k w a b f g e x =
-    to_alike (entered_twin (kit_of p.settings) (kit_wide p.settings.measure p.settings.boards) k w p (from_alike p f.able g.able x)
+alike_entered p k w a b h i f e x =
+    to_alike (entered_twin (kit_of p.settings) (kit_wide p.settings.measure p.settings.boards) k w p (from_alike p h i x)
     f.start f.top (own_wide hops01 p.settings.measure p.settings.boards (p.window.taken.0 + 1) w (sym e)))
 
 -- a test
-pub alike_tried : (p : Place) (a b : List ℕ) {d e : ℕ} → Fit p (length a) d → Fit p (length b) e → Alike p a b
+pub alike_tried : (p : Place) (a b : List ℕ) {d : ℕ} → Able p.settings (length a) → Able p.settings (length b) → Fit p d → Alike p a b
     → Agrees (tried (kit_of p.settings)) p a b
-alike_tried p a b f g x =
-    to_alike (tried_twin (kit_of p.settings) (kit_wide p.settings.measure p.settings.boards) p (from_alike p f.able g.able x)
+alike_tried p a b h i f x =
+    to_alike (tried_twin (kit_of p.settings) (kit_wide p.settings.measure p.settings.boards) p (from_alike p h i x)
     f.start f.inside f.top)
 
 -- A STEP, not after the end of measure 1: the areas are alike at its place, though the walk may end there.
-pub alike_going : (p : Place) (w a b : List ℕ) → Takes p (length a) (length w) → Takes p (length b) (length w) → finished p ≡ false → Alike p a b
+pub alike_going : (p : Place) (w a b : List ℕ) → Able p.settings (length a) → Able p.settings (length b) → Takes p (length w) → finished p ≡ false
+    → Alike p a b
     → Agrees (stepped (kit_of p.settings) w) p a b
-alike_going p w a b f g z x =
-    to_alike (stepped_twin (kit_of p.settings) (kit_wide p.settings.measure p.settings.boards) w p a b (from_alike p f.passed.able
-    g.passed.able x) f.passed.start
+alike_going p w a b h i f z x =
+    to_alike (stepped_twin (kit_of p.settings) (kit_wide p.settings.measure p.settings.boards) w p a b (from_alike p h i x) f.passed.start
     f.passed.top (own_wide hops01 p.settings.measure p.settings.boards (p.window.taken.0 + 1) w (sym f.shape)) z f.failed.ahead
     f.passed.ahead)
 
@@ -546,15 +547,15 @@ finished_stays p z =
     (and_true (lt-ltb 0 (p.window.taken.0 + 1) (omega arith)) (and_right (ltb 0 p.window.taken.0) (not p.marks.passed) e))
 
 -- A STEP OF A WALK: from areas that are alike for as long as it reads them it comes to one place, and to such areas.
-pub alike_stepped : (p : Place) (w a b : List ℕ) → Takes p (length a) (length w) → Takes p (length b) (length w) → StillAlike p a b
+pub alike_stepped : (p : Place) (w a b : List ℕ) → Able p.settings (length a) → Able p.settings (length b) → Takes p (length w) → StillAlike p a b
     → ((stepped (kit_of p.settings) w (state p a)).place ≡ (stepped (kit_of p.settings) w (state p b)).place)
     × StillAlike (stepped (kit_of p.settings) w (state p a)).place (stepped (kit_of p.settings) w (state p a)).area
     (stepped (kit_of p.settings) w (state p b)).area
-alike_stepped p w a b f g x = go (finished p) refl
+alike_stepped p w a b h i f x = go (finished p) refl
   where
     go : (y : Bool) → finished p ≡ y
         → ((stepped (kit_of p.settings) w (state p a)).place ≡ (stepped (kit_of p.settings) w (state p b)).place)
         × StillAlike (stepped (kit_of p.settings) w (state p a)).place (stepped (kit_of p.settings) w (state p a)).area
         (stepped (kit_of p.settings) w (state p b)).area
     go true z = rw (finished-step p w a z, finished-step p w b z) (refl, λ o. absurd (subst T (sym (finished_stays p z) ∙ o) tt))
-    go false z = let r = alike_going p w a b f g z (x z) in (r.0, λ o. r.1)
+    go false z = let r = alike_going p w a b h i f z (x z) in (r.0, λ o. r.1)

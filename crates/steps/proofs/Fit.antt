@@ -19,13 +19,6 @@ use Rattle.steps.specs.Fit.{Able, In, Owns, Fit, Entry, Does}
 
 -- ---- parts
 
--- a part of the place lies in the area
-pub able_has : {s : Settings} {words i : ℕ} → Able s words → In s i → Has (part_size (kit_of s)) words i
-able_has {s} {words} {i} a j = has (part_size (kit_of s)) (s.limit + 4) words i a.room j.low j.high
-
-pub in_part : {s : Settings} (i : ℕ) → 1 ≤ i → i ≤ s.limit + 4 → In s i
-in_part i a b = record { low = a; high = b }
-
 pub able_long : {s : Settings} {v w : ℕ} → v ≡ w → Able s w → Able s v
 able_long e a = rw e a
 
@@ -43,16 +36,15 @@ limit-of e = ap (λ (x : Settings). x.limit) e
 
 -- ---- places
 
-pub fit_at : {p q : Place} {v w k : ℕ} → q ≡ p → v ≡ w → Fit p w k → Fit q v k
-fit_at e g f = rw (e, g) f
+pub fit_at : {p q : Place} {k : ℕ} → q ≡ p → Fit p k → Fit q k
+fit_at e f = rw e f
 
 -- fewer may be charged too
-pub fit_less : {p : Place} {words d : ℕ} (e : ℕ) → e ≤ d → Fit p words d → Fit p words e
+pub fit_less : {p : Place} {d : ℕ} (e : ℕ) → e ≤ d → Fit p d → Fit p e
 fit_less e h f =
     let c = f.comps in
     let t = f.tests in
     record {
-      able = f.able;
       start = f.start;
       inside = f.inside;
       top = f.top;
@@ -62,7 +54,7 @@ fit_less e h f =
     }
 
 -- a pick taken and the start moved
-pub entry_fit : {p : Place} {k words : ℕ} → Entry p k words → Fit (start_moved (picks_taken p 1) k) words per_pick
+pub entry_fit : {p : Place} {k : ℕ} → Entry p k → Fit (start_moved (picks_taken p 1) k) per_pick
 unfolding start_moved picks_taken
 entry_fit e =
     let s = e.start in
@@ -70,7 +62,6 @@ entry_fit e =
     let c = e.comps in
     let t = e.tests in
     record {
-      able = e.able;
       start = omega arith;
       inside = e.ahead;
       top = e.top;
@@ -79,12 +70,11 @@ entry_fit e =
       tests = omega arith;
     }
 
-pub moved_fit : (p : Place) {words d : ℕ} → Fit p words d → p.window.start.0 < p.window.taken.0 → Fit (start_moved p 1) words d
+pub moved_fit : (p : Place) {d : ℕ} → Fit p d → p.window.start.0 < p.window.taken.0 → Fit (start_moved p 1) d
 unfolding start_moved
 moved_fit p f h =
     let s = f.start in
     record {
-      able = f.able;
       start = omega arith;
       inside = omega arith;
       top = f.top;
@@ -93,23 +83,23 @@ moved_fit p f h =
       tests = f.tests;
     }
 
-pub entry_by : {p : Place} {k i words : ℕ} → k ≡ i → Entry p i words → Entry p k words
-entry_by {p} {k} {i} {words} e h = subst (λ (x : ℕ). Entry p x words) (sym e) h
+pub entry_by : {p : Place} {k i : ℕ} → k ≡ i → Entry p i → Entry p k
+entry_by {p} {k} {i} e h = subst (λ (x : ℕ). Entry p x) (sym e) h
 
 pub one_le : {k : ℕ} (x : Bool) → k ≡ val x → k ≤ 1
 one_le x e = omega (arith, val_le x)
 
 -- the part of the new pick has the own table of its words
 pub entry_owns : {p q : Place} {k : ℕ} {w b : List ℕ} (a : List ℕ) → q ≡ start_moved (picks_taken p 1) k
-    → b ≡ own_at (kit_of p.settings) a (p.window.taken.0 + 1) w → Entry p k (length a)
+    → b ≡ own_at (kit_of p.settings) a (p.window.taken.0 + 1) w → Able p.settings (length a) → Entry p k
     → p.settings.boards ≡ length w → Owns q b w
 unfolding start_moved picks_taken
-entry_owns {p} {q} {k} {w} {b} a e g h n =
+entry_owns {p} {q} {k} {w} {b} a e g able h n =
     let t = h.top in
     subst (λ (x : Place). Owns x b w) (sym e) (record {
       shape = n;
       own = ap (λ (x : List ℕ). table_at (kit_of p.settings) x (p.window.taken.0 + 1)) g
-          ∙ own_same (kit_of p.settings) (p.settings.limit + 4) a h.able.room (p.window.taken.0 + 1) (omega arith)
+          ∙ own_same (kit_of p.settings) (p.settings.limit + 4) a able.room (p.window.taken.0 + 1) (omega arith)
           (omega arith) w (own_wide hops01 p.settings.measure p.settings.boards (p.window.taken.0 + 1) w (sym n));
     })
 
@@ -119,15 +109,15 @@ unfolding charged
 charged_none p = rw add-zero
 
 -- the window, copied from the left ladder and composed with the right one
-pub window_copied : (p : Place) (a : List ℕ) {x y : List ℕ} {d : ℕ} → Fit p (length a) d
+pub window_copied : (p : Place) (a : List ℕ) {x y : List ℕ} {d : ℕ} → Able p.settings (length a) → Fit p d
     → x ≡ copy_at (kit_of p.settings) a (p.settings.limit + 2) p.window.start.0
     → y ≡ compose_at (kit_of p.settings) x (p.settings.limit + 2) (p.settings.limit + 2) (p.settings.limit + 1)
     → y ≡ compose_at (kit_of p.settings) a (p.settings.limit + 2) p.window.start.0 (p.settings.limit + 1)
-window_copied p a f e g =
+window_copied p a h f e g =
     let fi = f.inside in
     let ft = f.top in
     g ∙ ap (λ (b : List ℕ). compose_at (kit_of p.settings) b (p.settings.limit + 2) (p.settings.limit + 2) (p.settings.limit + 1)) e
-    ∙ compose_copied (kit_of p.settings) (p.settings.limit + 4) a f.able.room
+    ∙ compose_copied (kit_of p.settings) (p.settings.limit + 4) a h.room
     (p.settings.limit + 2) (omega arith) (omega arith) p.window.start.0 f.start (omega arith) (p.settings.limit + 1) (omega arith)
     (λ q. omega arith)
 

@@ -5,7 +5,6 @@ use native.Mathlib.Omega.{arith}
 use mathlib.Core.Path.{◌≡◌, refl, ◌∙◌}
 use mathlib.Core.Bool.{Bool, true, false, ◌&&◌}
 use mathlib.Core.List.{List}
-use lib.ListN.{length}
 use borrow.Author.Tests.{ltb-true, ltb-false}
 use Rattle.measures.specs.Kit.{Kit}
 use Rattle.place.specs.declared.Place.{Place}
@@ -14,7 +13,7 @@ use Rattle.steps.specs.Walk.{State, state, kit_of, more, far, on_left, on_right,
 use Rattle.steps.specs.Walk.{tried, raised_by, raised, again}
 use Rattle.steps.specs.Fit.{Fit, Entry, Does}
 use Rattle.place.specs.Places.{per_ladder}
-use Rattle.steps.proofs.Fit.{able_kept, limit-of, fit_at}
+use Rattle.steps.proofs.Fit.{limit-of, fit_at}
 use Rattle.model.specs.Journey.{val}
 use Rattle.model.proofs.Bits.{val_le}
 
@@ -92,8 +91,8 @@ grown_counted g h = record {
   tests = g.tests;
 }
 
-pub fit_grown : {p q : Place} {k c t words d e : ℕ} → Grown p q 0 k c t → p.window.start.0 + k ≤ p.window.taken.0 → c + e ≤ d → t + e ≤ d
-    → Fit p words d → Fit q words e
+pub fit_grown : {p q : Place} {k c t d e : ℕ} → Grown p q 0 k c t → p.window.start.0 + k ≤ p.window.taken.0 → c + e ≤ d → t + e ≤ d
+    → Fit p d → Fit q e
 fit_grown g s c t f =
     let gm = g.taken in
     let gs = g.start in
@@ -106,7 +105,6 @@ fit_grown g s c t f =
     let fc = f.comps in
     let fu = f.tests in
     record {
-      able = able_kept g.settings f.able;
       start = omega arith;
       inside = omega arith;
       top = omega arith;
@@ -290,13 +288,13 @@ again_near K st h =
 -- ---- what a step may go on from
 
 -- the place that code comes to, where its own is known to have grown
-grown_fit : {p r q : Place} {m n k c t d e : ℕ} → q ≡ r → m ≡ n → Grown p r 0 k c t → p.window.start.0 + k ≤ p.window.taken.0
-    → c + e ≤ d → t + e ≤ d → Fit p n d → Fit q m e
-grown_fit h l g s c t f = fit_at h l (fit_grown g s c t f)
+pub grown_fit : {p r q : Place} {k c t d e : ℕ} → q ≡ r → Grown p r 0 k c t → p.window.start.0 + k ≤ p.window.taken.0
+    → c + e ≤ d → t + e ≤ d → Fit p d → Fit q e
+grown_fit h g s c t f = fit_at h (fit_grown g s c t f)
 
-pub enter_tries : (p : Place) (a : List ℕ) (k : ℕ) (w : List ℕ) {q : Place} {b : List ℕ} → Entry p k (length a)
-    → Does (entered (kit_of p.settings) k w) p a q b → length b ≡ length a → Fit q (length b) (3 * per_ladder + 1)
-enter_tries p a k w e d l =
+pub enter_tries : (p : Place) (a : List ℕ) (k : ℕ) (w : List ℕ) {q : Place} {b : List ℕ} → p.settings.limit ≤ 4096 → Entry p k
+    → Does (entered (kit_of p.settings) k w) p a q b → Fit q (3 * per_ladder + 1)
+enter_tries p a k w ea e d =
     let g = entered_grown (kit_of p.settings) k w (state p a) in
     let gm = g.taken in
     let gs = g.start in
@@ -304,14 +302,12 @@ enter_tries p a k w e d l =
     let gc = g.comps in
     let gt = g.tests in
     let es = e.start in
-    let ea = e.able.cap in
     let eh = e.ahead in
     let et = e.top in
     let eb = g.bound e.bound in
     let ec = e.comps in
     let eu = e.tests in
-    fit_at d.0 l (record {
-      able = able_kept g.settings e.able;
+    fit_at d.0 (record {
       start = omega arith;
       inside = omega arith;
       top = omega arith;
@@ -320,13 +316,12 @@ enter_tries p a k w e d l =
       tests = omega arith;
     })
 
-pub try_climbs : (p : Place) (a : List ℕ) {q : Place} {b : List ℕ} → Fit p (length a) (3 * per_ladder + 1)
-    → Does (tried (kit_of p.settings)) p a q b → length b ≡ length a → Fit q (length b) (3 * per_ladder)
-try_climbs p a f d l = let fi = f.inside in grown_fit d.0 l (tried_grown (kit_of p.settings) (state p a)) (omega arith) (omega arith) (omega arith) f
+pub try_climbs : (p : Place) (a : List ℕ) {q : Place} {b : List ℕ} → Fit p (3 * per_ladder + 1)
+    → Does (tried (kit_of p.settings)) p a q b → Fit q (3 * per_ladder)
+try_climbs p a f d = let fi = f.inside in grown_fit d.0 (tried_grown (kit_of p.settings) (state p a)) (omega arith) (omega arith) (omega arith) f
 
-pub raise_tries : (p : Place) (a : List ℕ) {q : Place} {b : List ℕ} → Fit p (length a) per_ladder → p.window.start.0 < p.window.taken.0
-    → Does (raised (kit_of p.settings)) p a q b → length b ≡ length a → Fit q (length b) 1
-raise_tries p a f h d l =
-    let fc = f.able.cap in
+pub raise_tries : (p : Place) (a : List ℕ) {q : Place} {b : List ℕ} → p.settings.limit ≤ 4096 → Fit p per_ladder → p.window.start.0 < p.window.taken.0
+    → Does (raised (kit_of p.settings)) p a q b → Fit q 1
+raise_tries p a fc f h d =
     let ft = f.top in
-    grown_fit d.0 l (raised_grown (kit_of p.settings) (state p a)) (omega arith) (omega arith) (omega arith) f
+    grown_fit d.0 (raised_grown (kit_of p.settings) (state p a)) (omega arith) (omega arith) (omega arith) f

@@ -12,7 +12,7 @@ use Rattle.place.specs.declared.Place.{Place}
 use Rattle.place.specs.Places.{charged, tested}
 use Rattle.steps.specs.Walk.{state, kit_of, on_left, on_right, tried}
 use Rattle.steps.specs.Bare.{composes, spared, bare_tried}
-use Rattle.steps.specs.Fit.{Fit, Does}
+use Rattle.steps.specs.Fit.{Able, Fit, Does}
 use Rattle.steps.proofs.Fit.{charged_none}
 use Rattle.steps.proofs.Alike.{window_table, tried_reads}
 
@@ -32,7 +32,7 @@ one-ladder p e = ap (λ (x : Bool). eqb p.settings.measure 4 && x) e ∙ and_non
 
 -- ---- by the ladders that the window lies on
 
-module _ (p : Place) (a : List ℕ) {d : ℕ} (f : Fit p (length a) d) where
+module _ (p : Place) (a : List ℕ) {d : ℕ} (able : Able p.settings (length a)) (f : Fit p d) where
   abbrev held : ℕ → List ℕ
   held i = table_at (kit_of p.settings) a i
 
@@ -43,7 +43,7 @@ module _ (p : Place) (a : List ℕ) {d : ℕ} (f : Fit p (length a) d) where
   unfolding bare_tried window_table
   on-right {r} {x} h e g =
       let l = lt-leb p.window.start.0 p.window.boundary.0 h in
-      let t = rw l at (tried_reads p a f) in (
+      let t = rw l at (tried_reads p a able f) in (
         g ∙ ap (tested p) e ∙ ap (λ (q : Place). tested q ((kit_of p.settings).pass (held (p.settings.limit + 3)) (held (p.settings.limit + 1))))
             (charged_none p) ∙ sym t,
         still p a (one-ladder p (rw l)),
@@ -57,7 +57,7 @@ module _ (p : Place) (a : List ℕ) {d : ℕ} (f : Fit p (length a) d) where
   on-left {r} {x} h k e g =
       let l = le-leb p.window.start.0 p.window.boundary.0 h in
       let m = le-ltb p.window.boundary.0 p.window.taken.0 k in
-      let t = rw (l, m) at (tried_reads p a f) in (
+      let t = rw (l, m) at (tried_reads p a able f) in (
         g ∙ ap (tested p) e ∙ ap (λ (q : Place). tested q ((kit_of p.settings).pass (held (p.settings.limit + 3)) (held p.window.start.0)))
             (charged_none p) ∙ sym t,
         still p a (one-ladder p (rw (l, m))),
@@ -73,7 +73,7 @@ module _ (p : Place) (a : List ℕ) {d : ℕ} (f : Fit p (length a) d) where
   on_both {q} {r} {x} h k n e u g =
       let l = le-leb p.window.start.0 p.window.boundary.0 h in
       let m = lt-ltb p.window.boundary.0 p.window.taken.0 k in
-      let t = rw (l, m) at (tried_reads p a f) in (
+      let t = rw (l, m) at (tried_reads p a able f) in (
         g ∙ ap (tested q) e ∙ ap (λ (z : Place). tested z ((kit_of p.settings).pass (held (p.settings.limit + 3))
             ((kit_of p.settings).join (held p.window.start.0) (held (p.settings.limit + 1))))) u ∙ sym t,
         still p a (rw (ne_eqb p.settings.measure 4 n)),
@@ -88,15 +88,3 @@ on_both_composed p a {r} {b} h k e d =
     let l = le-leb p.window.start.0 p.window.boundary.0 h in
     let m = lt-ltb p.window.boundary.0 p.window.taken.0 k in
     (d.0, rw (eq-eqb p.settings.measure 4 e, l, m) d.1)
-
--- ---- what the test of both ladders requires and says
-
--- measure 2, where it is neither 4 nor 3
-pub spared_footprint : (p : Place) → spared p.settings ≡ true → p.settings.measure ≢ 4 → p.settings.measure ≢ 3
-    → p.settings.measure ≡ 2
-spared_footprint p e n m = eqb→eq p.settings.measure 2 (go (eqb p.settings.measure 2)
-    (rw (ne_eqb p.settings.measure 4 n, ne_eqb p.settings.measure 3 m) at e))
-  where
-    go : (x : Bool) → (x || (false || false)) ≡ true → T x
-    go true e = tt
-    go false e = absurd (false≢true e)

@@ -9,3 +9,4 @@ pub mod Ready
 pub mod Alike
 pub mod Ladders
 pub mod Bare
+pub mod Makes

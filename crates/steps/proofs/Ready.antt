@@ -44,10 +44,10 @@ ahead_failed {p} r = ahead r p.marks.failed r.none_failed
 
 pub step_takes : {p : Place} {words links : ℕ} → Ready p words → p.window.taken.0 < p.settings.limit
     → p.counts.compositions.0 + per_pick ≤ most_counted
-    → p.counts.tests.0 + per_pick ≤ most_counted → p.settings.boards ≡ links → Takes p words links
+    → p.counts.tests.0 + per_pick ≤ most_counted → p.settings.boards ≡ links → Takes p links
 step_takes r h c t e = record {
-  passed = record { able = r.able; start = r.start; ahead = ahead_passed r; top = omega arith; bound = r.bound; comps = c; tests = t };
-  failed = record { able = r.able; start = r.start; ahead = ahead_failed r; top = omega arith; bound = r.bound; comps = c; tests = t };
+  passed = record { start = r.start; ahead = ahead_passed r; top = omega arith; bound = r.bound; comps = c; tests = t };
+  failed = record { start = r.start; ahead = ahead_failed r; top = omega arith; bound = r.bound; comps = c; tests = t };
   shape = e;
 }
 
@@ -64,7 +64,7 @@ sound_ready s room = record {
 }
 
 pub sound_takes : {p : Place} {words links : ℕ} → Sound p → (p.settings.limit + 4) * part_size (kit_of p.settings) ≤ words
-    → p.window.taken.0 < p.settings.limit → p.settings.boards ≡ links → Takes p words links
+    → p.window.taken.0 < p.settings.limit → p.settings.boards ≡ links → Takes p links
 sound_takes s room h e =
     let l = s.limit_high in
     let c = s.compositions_high in

@@ -5,7 +5,6 @@ use native.Mathlib.Omega.{arith}
 use mathlib.Core.Path.{◌≡◌, refl, sym, ap, ap₂, ◌∙◌, subst}
 use mathlib.Core.Bool.{Bool, true, false, cond}
 use mathlib.Core.List.{List}
-use lib.ListN.{length}
 use Rattle.measures.specs.Kit.{Kit}
 use Rattle.place.specs.declared.Place.{Place}
 use Rattle.steps.specs.Walk.{State, state, kit_of, again, climb, climbed}
@@ -72,41 +71,12 @@ climbed_along K st low =
 -- ---- the loop: what is left from here makes the whole
 
 pub record Climb (p₀ : Place) (a₀ : List ℕ) (k₀ : ℕ) (p : Place) (a : List ℕ) (k : ℕ) : Type 0 where
-  pub fit₀ : Fit p₀ (length a₀) (3 * per_ladder)
-  pub long : length a ≡ length a₀
+  pub cap : p₀.settings.limit ≤ 4096
+  pub fit₀ : Fit p₀ (3 * per_ladder)
   pub whole : k₀ ≡ p₀.window.taken.0 - p₀.window.start.0
   pub down : k ≤ k₀
   pub along : AfterRises p₀ p (k₀ - k)
   pub rest : climb (kit_of p₀.settings) k₀ (state p₀ a₀) ≡ climb (kit_of p₀.settings) k (state p a)
-
-pub climb-start : (p : Place) (a : List ℕ) → Fit p (length a) (3 * per_ladder)
-    → Climb p a (p.window.taken.0 - p.window.start.0) p a (p.window.taken.0 - p.window.start.0)
-climb-start p a f =
-    let k = p.window.taken.0 - p.window.start.0 in
-    let e : 0 ≡ k - k = omega arith in
-    record {
-      fit₀ = f;
-      long = refl;
-      whole = refl;
-      down = le_refl k;
-      along = subst (λ (i : ℕ). AfterRises p p i) e (along_none p);
-      rest = refl;
-    }
-
--- what the next rise requires
-pub climb_takes : {p₀ p : Place} {a₀ a : List ℕ} {k₀ k : ℕ} → Climb p₀ a₀ k₀ p a k → 0 < k
-    → Fit p (length a) per_ladder × (p.window.start.0 < p.window.taken.0)
-climb_takes {p₀} {p} {a₀} {a} c h =
-    let f = c.fit₀ in
-    let fi = f.inside in
-    let ft = f.top in
-    let fa = f.able.cap in
-    let w = c.whole in
-    let d = c.down in
-    let g = c.along.grown in
-    let gs = g.start in
-    let gm = g.taken in
-    (subst (λ (n : ℕ). Fit p n per_ladder) (sym c.long) (fit_grown g (omega arith) (omega arith) (omega arith) f), omega arith)
 
 climb-more : (K : Kit) (k : ℕ) (st : State) → 0 < k → st.place.marks.passed ≡ false → climb K k st ≡ climb K (k - 1) (again K st)
 unfolding climb
@@ -124,8 +94,8 @@ climb_none K zero st e = refl
 climb_none K (suc k) st e = absurd (omega arith)
 
 pub climb_turn : {p₀ p q : Place} {a₀ a b : List ℕ} {k₀ k : ℕ} → Climb p₀ a₀ k₀ p a k → 0 < k → p.marks.passed ≡ false
-    → Does (again (kit_of p.settings)) p a q b → length b ≡ length a → Climb p₀ a₀ k₀ q b (k - 1)
-climb_turn {p₀} {p} {q} {a₀} {a} {b} {k₀} {k} c h e d l =
+    → Does (again (kit_of p.settings)) p a q b → Climb p₀ a₀ k₀ q b (k - 1)
+climb_turn {p₀} {p} {q} {a₀} {a} {b} {k₀} {k} c h e d =
     let f = c.fit₀ in
     let fi = f.inside in
     let w = c.whole in
@@ -136,8 +106,8 @@ climb_turn {p₀} {p} {q} {a₀} {a} {b} {k₀} {k} c h e d l =
     let n : k₀ - k + 1 ≡ k₀ - (k - 1) = omega arith in
     let m : AfterRises p₀ (again (kit_of p₀.settings) (state p a)).place (k₀ - k + 1) = along_more (kit_of p₀.settings) a (omega arith) c.along in
     record {
+      cap = c.cap;
       fit₀ = f;
-      long = l ∙ c.long;
       whole = c.whole;
       down = omega arith;
       along = subst (λ (i : ℕ). AfterRises p₀ q i) n (subst (λ (x : Place). AfterRises p₀ x (k₀ - k + 1)) (sym d'.0) m);

@@ -24,8 +24,7 @@ pub record Owns (p : Place) (a w : List ℕ) : Type 0 where
   pub own : table_at (kit_of p.settings) a p.window.taken.0 ≡ (kit_of p.settings).own p.window.taken.0 w
 
 -- the window s to m is one of picks taken, and d more of each may be charged
-pub record Fit (p : Place) (words d : ℕ) : Type 0 where
-  pub able : Able p.settings words
+pub record Fit (p : Place) (d : ℕ) : Type 0 where
   pub start : 1 ≤ p.window.start.0
   pub inside : p.window.start.0 ≤ p.window.taken.0
   pub top : p.window.taken.0 ≤ p.settings.limit
@@ -42,8 +41,7 @@ abbrev pub rise : Place → ℕ
 rise p = val (cond (eqb p.settings.measure 1) p.marks.failed p.marks.passed)
 
 -- a place that takes a pick and moves its start by k
-pub record Entry (p : Place) (k words : ℕ) : Type 0 where
-  pub able : Able p.settings words
+pub record Entry (p : Place) (k : ℕ) : Type 0 where
   pub start : 1 ≤ p.window.start.0
   pub ahead : p.window.start.0 + k ≤ p.window.taken.0 + 1
   pub top : p.window.taken.0 + 1 ≤ p.settings.limit
@@ -52,9 +50,9 @@ pub record Entry (p : Place) (k words : ℕ) : Type 0 where
   pub tests : p.counts.tests.0 + per_pick ≤ most_counted
 
 -- a place that takes a pick of `links` words, whatever its measure
-pub record Takes (p : Place) (words links : ℕ) : Type 0 where
-  pub passed : Entry p (val p.marks.passed) words
-  pub failed : Entry p (val p.marks.failed) words
+pub record Takes (p : Place) (links : ℕ) : Type 0 where
+  pub passed : Entry p (val p.marks.passed)
+  pub failed : Entry p (val p.marks.failed)
   pub shape : p.settings.boards ≡ links
 
 -- What every place keeps that a walk comes to, whatever its counts; `Rattle.steps.proofs.Ready` leads from it to `Takes`, and from step to step.

@@ -4,3 +4,4 @@ pub mod Fit
 pub mod Alike
 pub mod Bare
 pub mod Modes
+pub mod Makes

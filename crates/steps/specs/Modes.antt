@@ -62,6 +62,6 @@ step_by Unkept K w st = bare_step K w st
 step_by (Held k) K w st = held_step (bare_tested K) K k w st
 
 -- a place that takes a pick of `links` words in this mode
-pub record Enters (mode : Mode) (p : Place) (words links : ℕ) : Type 0 where
-  pub entry : Entry p (rise_by mode p) words
+pub record Enters (mode : Mode) (p : Place) (links : ℕ) : Type 0 where
+  pub entry : Entry p (rise_by mode p)
   pub shape : p.settings.boards ≡ links

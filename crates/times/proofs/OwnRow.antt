@@ -1,5 +1,5 @@
 -- A word of a row of a pick's own table, by the bit of its board. Assumes nothing.
-use Rattle.std.proofs.Common.{◌≡◌, ℕ, suc, ◌+◌, ◌-◌, ◌*◌, ◌^◌, ◌<◌, Bool, true, false, cond, not, ◌&&◌, eqb, List, ◌++◌, length, get_or, take, sym, refl, ap, ◌∙◌, lt_of_le_of_lt, arith, get_or-take, pow_pos, eq-eqb, ne_eqb, eqb-true}
+use Rattle.std.proofs.Common.{◌≡◌, ℕ, suc, ◌+◌, ◌-◌, ◌*◌, ◌^◌, ◌<◌, Bool, true, false, not, ◌&&◌, eqb, List, ◌++◌, length, get_or, take, sym, refl, ap, ◌∙◌, lt_of_le_of_lt, arith, pow_pos, eq-eqb, ne_eqb, eqb-true}
 use lib.Bits.{bit_and, and_comm, and_le_r}
 use lib.Pow.{pow-lt}
 use Rattle.model.specs.Recording.{bit, link}
@@ -12,7 +12,7 @@ use Rattle.times.specs.Own.{board_bit, own_word}
 use Rattle.times.proofs.Cells.{length-rows}
 use Rattle.times.proofs.Rows.{Rowed, rows_none, rowed_turn, half_few}
 use Rattle.std.proofs.lemmas.Grind.{common_steps}
-use Rattle.std.proofs.Common.{drop, if◌then◌else◌}
+use Rattle.std.proofs.Common.{drop}
 
 -- ---- one word
 
@@ -38,11 +38,11 @@ board-bit x v = by (bit x v) refl
 
 -- a word of a row, by the bit of its board
 pub own_is : (p x v : ℕ) (bits : List ℕ) → bits ≡ tab board_bit 32 → v < 32
-    → (if eqb (bit_and x (get_or bits v 0)) 0 then 0 else p) ≡ own_word p x v
+    → kept (not (eqb (bit_and x (get_or bits v 0)) 0)) p ≡ own_word p x v
 unfolding own_word board_bit
 own_is p x v bits e h = rw (e, get_or-tab board_bit 32 v h, board-bit x v) (by (bit x v))
   where
-    by : (b : Bool) → cond (not b) 0 p ≡ kept b p
+    by : (b : Bool) → kept (not (not b)) p ≡ kept b p
     by true = refl
     by false = refl
 
@@ -53,9 +53,9 @@ length_bits bits e = ap length e ∙ length-tab board_bit 32
 pub ruleset own_rows = (common_steps, own_is, length_bits, made_all)
 
 -- a turn of the loop over the rows
-pub own_turn : (i n u : ℕ) (w t₀ t row : List ℕ) → u < n → Rowed n (own_time i w) t₀ t u → row ≡ tab (own_word i (get_or (take n w) u 0)) n
+pub own_turn : (i n u : ℕ) (w t₀ t row : List ℕ) → u < n → Rowed n (own_time i w) t₀ t u → row ≡ tab (own_word i (get_or w u 0)) n
     → take (u * n) t ++ (row ++ drop (u * n + n - u * n) (drop (u * n) t)) ≡ rows n (own_time i w) (u + 1) ++ drop ((u + 1) * n) t₀
 unfolding own_word own_time link
-own_turn i n u w t₀ t row h e q = rowed_turn n u (own_time i w) t₀ t row e (q ∙ rw get_or-take refl)
+own_turn i n u w t₀ t row h e q = rowed_turn n u (own_time i w) t₀ t row e q
 
 pub ruleset own_turns = (common_steps, rows_none, own_turn, length-rows, half_few)

@@ -1,5 +1,5 @@
 -- The test of a table, and the count of the pairs out of time, with each pair of boards looked at once. Assumes nothing.
-use Rattle.std.proofs.Common.{◌≡◌, ℕ, zero, suc, ◌+◌, ◌*◌, ◌%◌, ◌^◌, ◌<◌, ◌≤◌, Bool, true, false, cond, not, ◌&&◌, T, eqb, ltb, leb, ◌≢◌, ◌↔◌, List, get_or, take, drop, sym, refl, ap, ◌∙◌, ⊎_elim, mod-eq_of_lt, suc-add, add-one, arith, get_or-take, le-ltb, ne_eqb}
+use Rattle.std.proofs.Common.{◌≡◌, ℕ, zero, suc, ◌+◌, ◌%◌, ◌^◌, ◌<◌, ◌≤◌, Bool, true, false, cond, not, ◌&&◌, T, eqb, ltb, leb, ◌≢◌, ◌↔◌, List, sym, refl, ap, ◌∙◌, ⊎_elim, mod-eq_of_lt, suc-add, add-one, arith, le-ltb, ne_eqb}
 use lib.Dec.{eqb-suc-zero}
 use Rattle.model.specs.Journey.{val}
 use Rattle.model.proofs.Bits.{val_le}
@@ -7,8 +7,8 @@ use Rattle.model.proofs.Logic.{T→≡, bool_ext, and_both, and_l, and_r, eq_or,
 use Rattle.lists.specs.Tab.{every, how_many, how_many_pairs}
 use Rattle.lists.proofs.Tab.{every_out, every_in}
 use Rattle.lists.proofs.Many.{many_next, many_le, pairs_none_yet, pairs_next, pairs_le}
-use Rattle.times.proofs.Rows.{cell_lt, half_few}
-use Rattle.times.specs.Times.{in_time, row_in_time, all_in_time, not_in_time}
+use Rattle.times.proofs.Rows.{half_few}
+use Rattle.times.specs.Times.{arr, dep, in_time, row_in_time, all_in_time, not_in_time}
 use Rattle.times.specs.Pairs.{no_later, pair_in_time, below_in_time, too_late, pair_out_of_time, below_out_of_time}
 
 -- a comparison with the word before x, which is the greatest one where x is 0
@@ -30,28 +30,14 @@ both_ways true true c d = refl
 both_ways true false true d = refl
 both_ways true false false d = refl
 
--- the words of a pair, and those of the way back, are within a half
-pub pair_lt : (n : ℕ) {u v : ℕ} → u < n → v < u → (u * n + v < n * n) × (v * n + u < n * n)
-pair_lt n {u} {v} h l = let k : v < n = omega arith in (cell_lt n h k, cell_lt n k h)
-
--- a time of one half, and one of the other, as code reads them
-abbrev arrives : ℕ → List ℕ → ℕ → ℕ → ℕ
-arrives n t u v = get_or (take (n * n) t) (u * n + v) 0
-
-abbrev departs : ℕ → List ℕ → ℕ → ℕ → ℕ
-departs n t u v = get_or (drop (n * n) t) (u * n + v) 0
-
-pub pair_is : (n turn : ℕ) (t : List ℕ) (u v : ℕ) → u < n → v < u
-    → pair_in_time n turn t u v ≡ no_later turn (arrives n t u v) (departs n t v u) && no_later turn (arrives n t v u) (departs n t u v)
+pub pair_is : (n turn : ℕ) (t : List ℕ) (u v : ℕ) → v < u
+    → pair_in_time n turn t u v ≡ no_later turn (arr n t u v) (dep n t v u) && no_later turn (arr n t v u) (dep n t u v)
 unfolding no_later pair_in_time in_time
-pair_is n turn t u v h l =
-    let p = pair_lt n h l in
-    let x : ℕ = get_or t (u * n + v) 0 in
-    let y : ℕ = get_or t (v * n + u) 0 in
-    let a : Bool = not (eqb x 0) in
-    let b : Bool = not (eqb y 0) in
-    simp (ne_eqb u v (λ e. omega arith), ne_eqb v u (λ e. omega arith), get_or-take (n * n) t (u * n + v) 0 p.0, get_or-take (n * n) t (v * n + u) 0 p.1)
-    (sym (both_ways a b (leb (x + turn) (departs n t v u)) (leb (y + turn) (departs n t u v))))
+pair_is n turn t u v l =
+    let a : Bool = not (eqb (arr n t u v) 0) in
+    let b : Bool = not (eqb (arr n t v u) 0) in
+    simp (ne_eqb u v (λ e. omega arith), ne_eqb v u (λ e. omega arith))
+    (sym (both_ways a b (leb (arr n t u v + turn) (dep n t v u)) (leb (arr n t v u + turn) (dep n t u v))))
 
 module _ (n turn : ℕ) (t : List ℕ) where
   pub own_in_time : (u v : ℕ) → u ≡ v → T (in_time n turn t u v)
@@ -96,17 +82,13 @@ both_counted true false c d = refl
 both_counted false true c d = refl
 both_counted false false c d = refl
 
-pub pair_counted : (n turn : ℕ) (t : List ℕ) (u v : ℕ) → u < n → v < u
-    → cond (eqb (arrives n t u v) 0) 2 (cond (eqb (arrives n t v u) 0) 2
-    (too_late turn (arrives n t u v) (departs n t v u) + too_late turn (arrives n t v u) (departs n t u v)))
+pub pair_counted : (n turn : ℕ) (t : List ℕ) (u v : ℕ) → v < u
+    → cond (eqb (arr n t u v) 0) 2 (cond (eqb (arr n t v u) 0) 2 (too_late turn (arr n t u v) (dep n t v u) + too_late turn (arr n t v u) (dep n t u v)))
     ≡ pair_out_of_time n turn t u v
 unfolding too_late pair_out_of_time not_in_time in_time
-pair_counted n turn t u v h l =
-    let p = pair_lt n h l in
-    let x : ℕ = get_or t (u * n + v) 0 in
-    let y : ℕ = get_or t (v * n + u) 0 in
-    simp (ne_eqb u v (λ e. omega arith), ne_eqb v u (λ e. omega arith), get_or-take (n * n) t (u * n + v) 0 p.0, get_or-take (n * n) t (v * n + u) 0 p.1)
-    (both_counted (eqb x 0) (eqb y 0) (leb (x + turn) (departs n t v u)) (leb (y + turn) (departs n t u v)))
+pair_counted n turn t u v l =
+    simp (ne_eqb u v (λ e. omega arith), ne_eqb v u (λ e. omega arith))
+    (both_counted (eqb (arr n t u v) 0) (eqb (arr n t v u) 0) (leb (arr n t u v + turn) (dep n t v u)) (leb (arr n t v u + turn) (dep n t u v)))
 
 pub too_late_le : (turn x y : ℕ) → too_late turn x y ≤ 1
 unfolding too_late

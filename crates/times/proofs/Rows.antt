@@ -1,12 +1,12 @@
 -- Laws of tables in rows, the invariant of the loops that write them row by row, and what the loops over a row make. Assumes nothing.
-use Rattle.std.proofs.Common.{zero-mul, ◌≡◌, ℕ, ◌+◌, ◌-◌, ◌*◌, ◌<◌, ◌≤◌, Bool, true, false, cond, eqb, List, ◌++◌, length, get_or, take, drop, set, sym, refl, ◌∙◌, le_of_eq, mul-le-mul_right, suc-mul, mul-le-mul, add-one, arith, length-drop, length-set, length-take-le, take_all, get_or-set_other, get_or-set_same, ext_get_or, drop_at, eqb-true, [], append_assoc}
+use Rattle.std.proofs.Common.{zero-mul, ◌≡◌, ℕ, ◌+◌, ◌-◌, ◌*◌, ◌<◌, ◌≤◌, Bool, true, false, cond, eqb, List, ◌++◌, length, get_or, take, drop, set, sym, refl, ◌∙◌, mul-le-mul_right, suc-mul, mul-le-mul, add-one, arith, length-drop, length-set, length-take-le, get_or-set_other, get_or-set_same, get_or-take, get_or-drop, ext_get_or, drop_at, eqb-true, [], append_assoc}
 use lib.Seq.{take_at, drop-drop}
 use native.Mathlib.Nat.{add-sub_cancel_left}
 use borrow.Author.Tests.{eqb-false}
 use Rattle.lists.specs.Tab.{tab, splice}
 use Rattle.lists.proofs.Splice.{written-part}
-use Rattle.lists.proofs.Tab.{length-tab, get_or-tab}
-use Rattle.times.specs.Times.{rows, apart}
+use Rattle.lists.proofs.Tab.{length-tab, get_or-tab, tab_of}
+use Rattle.times.specs.Times.{cell, rows, apart}
 use Rattle.times.proofs.Cells.{length-rows}
 
 -- ---- places
@@ -27,9 +27,15 @@ half_few h = mul-le-mul h h
 pub part_length : (n at : ℕ) (xs : List ℕ) → at + n ≤ length xs → n ≡ length (take (at + n - at) (drop at xs))
 part_length n at xs h = rw add-sub_cancel_left (sym (length-take-le n (drop at xs) (omega (arith, length-drop at xs))))
 
--- a part from a start to the end
-pub from_start : (m : ℕ) (xs : List ℕ) → take (length xs - m) (drop m xs) ≡ drop m xs
-from_start m xs = take_all (length xs - m) (drop m xs) (le_of_eq (length-drop m xs))
+-- the row of u, as it is lent: its words, and all of them
+pub row_cell : (n u : ℕ) (half : List ℕ) (v : ℕ) → v < n → get_or (take (u * n + n - u * n) (drop (u * n) half)) v 0 ≡ cell n half u v
+row_cell n u half v h = rw (add-sub_cancel_left, get_or-take n (drop (u * n) half) v 0 h) (get_or-drop (u * n) half v 0)
+
+pub row_lent : (n u : ℕ) (half : List ℕ) → u < n → n * n ≤ length half → take (u * n + n - u * n) (drop (u * n) half) ≡ tab (cell n half u) n
+row_lent n u half h l = tab_of (cell n half u) n _ (sym (part_length n (u * n) half (omega (arith, row_le n h)))) (row_cell n u half)
+
+-- what a read of a half stands on
+pub ruleset row_reads = (row_le, row_lent)
 
 -- ---- rows
 
@@ -53,12 +59,13 @@ pub rowed_turn : (n u : ℕ) (f : ℕ → ℕ → ℕ) (t₀ t row : List ℕ) �
     → take (u * n) t ++ (row ++ drop (u * n + n - u * n) (drop (u * n) t)) ≡ rows n f (u + 1) ++ drop ((u + 1) * n) t₀
 unfolding rows
 rowed_turn n u f t₀ t row e q =
-    rw (rowed_read n u f t₀ t e, add-sub_cancel_left, add-one, suc-mul, drop-drop, q, e, take_at (rows n f u) (drop (u * n) t₀) (u * n) (length-rows n f u), append_assoc)
+    let lent = take_at (rows n f u) (drop (u * n) t₀) (u * n) (length-rows n f u) in
+    rw (rowed_read n u f t₀ t e, add-sub_cancel_left, add-one, suc-mul, drop-drop, q, e, lent, append_assoc)
 
 -- the same, where it is put in its place
-pub rowed_put : (n u : ℕ) (f : ℕ → ℕ → ℕ) (t₀ t : List ℕ) → Rowed n f t₀ t u
-    → splice (u * n) n (tab (f u) n) t ≡ rows n f (u + 1) ++ drop ((u + 1) * n) t₀
-rowed_put n u f t₀ t e = sym (written-part (u * n) n t refl) ∙ rowed_turn n u f t₀ t (tab (f u) n) e refl
+pub rowed_put : (n u : ℕ) (f : ℕ → ℕ → ℕ) (t₀ t : List ℕ) {s : List ℕ} → Rowed n f t₀ t u → s ≡ splice (u * n) n (tab (f u) n) t
+    → s ≡ rows n f (u + 1) ++ drop ((u + 1) * n) t₀
+rowed_put n u f t₀ t e q = q ∙ sym (written-part (u * n) n t refl) ∙ rowed_turn n u f t₀ t (tab (f u) n) e refl
 
 -- ---- one row
 

@@ -1,7 +1,7 @@
 -- Verdicts: how code arrives at one, and what one says, read back. Assumes nothing.
 use mathlib.Core.Path.{◌≡◌, refl, sym, ap, ◌∙◌, subst}
 use mathlib.Core.Bool.{Bool, true, false, ◌&&◌, not}
-use Prim.Native.Nat.{ℕ, ◌+◌, ◌-◌, ◌*◌, ◌/◌, ◌%◌, ◌≤◌, ◌<◌}
+use Prim.Native.Nat.{ℕ, ◌+◌, ◌*◌, ◌/◌, ◌%◌, ◌≤◌, ◌<◌}
 use native.Mathlib.Nat.{mul-le-mul, div-add-mod'}
 use native.Mathlib.Omega.{arith}
 use mathlib.Core.List.{List}
@@ -15,7 +15,6 @@ use Rattle.checks.specs.Lent.{clean_picks}
 use Rattle.measures.specs.Kit.{kit}
 use Rattle.area.specs.Parts.{width_of, Has, table_at}
 use Rattle.area.proofs.Laws.{has}
-use Rattle.area.proofs.Lent.{lies_links, width_most}
 use Rattle.place.specs.declared.Place.{Place}
 use Rattle.place.proofs.Laws.{sound_says, sound_in}
 use Rattle.verdicts.specs.Verdicts.{needed, lent_causes, open_causes, pick_causes, whole_causes, open_verdict, pick_verdict, whole_verdict}
@@ -29,22 +28,13 @@ pub failed_by : {x y : Bool} → x ≡ y → x ≡ false → not y ≡ true
 failed_by e f = ap not (sym e ∙ f)
 
 -- the words that an area needs are few enough to be counted
-pub needed_most : (measure n limit e : ℕ) → n ≤ 32 → limit ≤ 4096 → e ≡ width_of measure n → (limit + 4) * e ≤ 8396800
-needed_most measure n limit e a b q =
-    let w = width_most measure n a in
-    let x : limit + 4 ≤ 4100 = omega arith in
-    let y : e ≤ 2048 = omega arith in
-    omega (arith, mul-le-mul x y)
+pub needed_most : {limit e : ℕ} → limit ≤ 4096 → e ≤ 2048 → (limit + 4) * e ≤ 8396800
+needed_most {limit} a b =
+    let x : limit + 4 ≤ 4100 = omega arith in omega (arith, mul-le-mul x b)
 
 -- part limit + 3 lies in the area
 pub third_part : (measure n limit words : ℕ) → needed measure n limit ≤ words → Has (width_of measure n) words (limit + 3)
 third_part measure n limit words h = has (width_of measure n) (limit + 4) words (limit + 3) h (omega arith) (omega arith)
-
--- under measure 2 its table lies where code lends it
-pub third_room : (measure n limit words : ℕ) {e : ℕ} → measure ≡ 2 → e ≡ width_of measure n → needed measure n limit ≤ words → (limit + 2) * e + n ≤ words
-third_room measure n limit words {e} two q h =
-    let i : limit + 3 - 1 ≡ limit + 2 = omega arith in
-    rw i at (lies_links measure n (λ x. omega arith) q (third_part measure n limit words h))
 
 pub not_short : (x y : ℕ) → ltb x y ≡ false → y ≤ x
 not_short x y e = let g : x < y → ⊥ = λ h. tr e (lt→ltb x y h) in omega arith

@@ -11,15 +11,20 @@ ghost use Rattle.verdicts.specs.Verdicts.{needed, lent_causes, run_causes, windo
 ghost use Rattle.verdicts.specs.Verdicts.{open_verdict, pick_verdict, whole_verdict, verdict_says};
 
 use links::LentPicks;
+use measures::Kit;
 use model::Refusal;
 use place::{Place, Settings};
 
 // The words that an area needs.
+#[tactic(auto, using(crate::proofs::Verdicts::needed_most))]
 pub fn needed_words(settings: Settings) -> usize
     requires { (settings.boards ≤ 32) × (settings.limit ≤ 4096) }
     ensures { result ≡ needed settings.measure settings.boards settings.limit }
 {
-    let e = area::width(settings.measure, settings.boards);
+    let e = area::width(Kit {
+        measure: settings.measure,
+        n: settings.boards,
+    });
     (settings.limit + 4) * e
 }
 
@@ -93,14 +98,17 @@ pub fn open_verdict(settings: Settings, footprint: &[u32], area: &[u32]) -> Resu
 // ---- pick
 
 // Whether the footprint in part limit + 3 has every link of a pick.
+#[tactic(auto, using(measures::proofs::Words::size_links, crate::proofs::Verdicts::third_part))]
 fn is_listed(area: &[u32], words: &[u32], settings: Settings) -> bool
     requires { (settings.boards ≤ 32) × (settings.limit ≤ 4096) × (settings.measure ≡ 2) × (settings.boards ≡ length words.now)
         × (needed settings.measure settings.boards settings.limit ≤ length area.now) }
     ensures { result ≡ listed settings.boards (table_at (kit settings.measure settings.boards) area.now (settings.limit + 3)) words.now }
 {
-    let limit = settings.limit;
-    let list = area::table(area, settings.measure, settings.boards, limit + 3);
-    checks::is_listed(list, words)
+    let kit = Kit {
+        measure: settings.measure,
+        n: settings.boards,
+    };
+    checks::is_listed(area::table(area, kit, settings.limit + 3), words)
 }
 
 // The causes of a pick, in their order: 16, 7, 10, 5, 4, 6.

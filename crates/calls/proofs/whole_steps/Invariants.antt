@@ -7,5 +7,6 @@ use Rattle.calls.proofs.whole_steps.Given as goal
 
 abbrev pub invariant-loop-pick : goal.invariant-loop-pick
 invariant-loop-pick l =
-    (l.pick-iterator.size ≡ l.fn.p.settings.boards)
-    × ((k : ℕ) × Bared l.fn.p l.lent.words.now l.initial.area l.lent.m k l.pick-iterator.rest.now l.q l.area)
+    (l.pick-iterator.size ≡ l.initial.walk.place.settings.boards)
+    × (l.walk.area.ghost_name ≡ l.initial.walk.area.ghost_name)
+    × ((k : ℕ) × Bared l.initial.walk.place l.lent.words.now l.initial.walk.area.now l.lent.m k l.pick-iterator.rest.now l.walk.place l.walk.area.now)

@@ -7,5 +7,7 @@ use Rattle.decision.proofs.hold_picks.Given as goal
 
 abbrev pub invariant-loop-pick : goal.invariant-loop-pick
 invariant-loop-pick l =
-    (l.pick-iterator.size ≡ l.fn.p.settings.boards)
-    × ((j : ℕ) × Holding l.fn.p l.lent.words.now l.initial.area l.lent.m l.k j l.pick-iterator.rest.now l.q l.area)
+    (l.pick-iterator.size ≡ l.initial.walk.place.settings.boards)
+    × (l.walk.area.ghost_name ≡ l.initial.walk.area.ghost_name)
+    × ((j : ℕ) × Holding l.initial.walk.place l.lent.words.now l.initial.walk.area.now l.lent.m l.k j l.pick-iterator.rest.now
+    l.walk.place l.walk.area.now)

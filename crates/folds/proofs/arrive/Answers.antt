@@ -6,12 +6,12 @@ use Rattle.folds.proofs.arrive.Goals as goal
 
 pub fold_rows-requires : goal.fold_rows-requires
 fold_rows-requires c =
-    let p = c.requires in
-    let n = c.args.n in
-    let small = small_sets n (cell n c.args.half.now) c.args.later.now _ (c.write.ensures ∙ simp c.some_rows-some.ensures) in
-    (p.0, (search rules, (p.1.1.1.1, (p.1.1.0, small))))
+    let n = c.args.later.now.n in
+    let small = small_sets n (cell n c.args.half.now) c.args.later.now.words.now _ (c.write.ensures ∙ simp c.some_rows-some.ensures) in
+    (search rules, c.requires.2, small)
 
 pub returns : goal.returns
 returns c =
+    let later = c.args.later.now in
     c.fold_over.ensures
-    ∙ crossed_rows false c.args.n c.args.half.now c.args.later.now _ _ (c.write.ensures ∙ simp c.some_rows-some.ensures) c.fold_rows.ensures
+    ∙ crossed_rows false later.n c.args.half.now later.words.now _ _ (c.write.ensures ∙ simp c.some_rows-some.ensures) c.fold_rows.ensures

@@ -6,11 +6,12 @@ use Rattle.folds.proofs.depart.Goals as goal
 
 pub fold_rows-requires : goal.fold_rows-requires
 fold_rows-requires c =
-    let n = c.args.n in
-    (c.requires.0, (search rules, (search rules, (search rules, small_sets n (transposed n c.args.right.now) _ _ c.column_sets.ensures.1))))
+    let right = c.args.right.now in
+    (search rules, search rules, small_sets right.n (transposed right.n right.words.now) _ _ c.column_sets.ensures.1)
 
 pub returns : goal.returns
 returns c =
+    let right = c.args.right.now in
     c.copy_from_slice.ensures.after ∙ c.fold_over.ensures
-    ∙ crossed_departures c.args.n c.args.half.now c.args.right.now _ _ _ _
+    ∙ crossed_departures right.n c.args.half.now right.words.now _ _ _ _
     c.column_sets.ensures.0 c.column_sets.ensures.1 c.fold_rows.ensures c.transpose.ensures

@@ -7,4 +7,4 @@ pub loop-u-init : goal.loop-u-init
 loop-u-init c = rowed_start _ _ _
 
 pub loop-u-preserved : goal.loop-u-preserved
-loop-u-preserved c = rowed_turn _ _ (λ i j. cell c.args.n c.args.half.now j i) _ _ _ c.loop-u.invariant c.transpose_row.ensures
+loop-u-preserved c = rowed_turn _ _ (λ i j. cell c.args.half.now.n c.args.half.now.words.now j i) _ _ _ c.loop-u.invariant c.transpose_row.ensures

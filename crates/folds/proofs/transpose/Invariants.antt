@@ -5,4 +5,4 @@ use Rattle.times.proofs.Rows.{Rowed}
 use Rattle.folds.proofs.transpose.Given as goal
 
 abbrev pub invariant-loop-u : goal.invariant-loop-u
-invariant-loop-u l = Rowed l.n (λ i j. cell l.n l.half j i) l.initial.out l.out l.u
+invariant-loop-u l = Rowed l.half.n (λ i j. cell l.half.n l.half.words.now j i) l.initial.out l.out l.u

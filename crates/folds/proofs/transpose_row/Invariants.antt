@@ -5,4 +5,4 @@ use Rattle.times.specs.Times.{cell}
 use Rattle.folds.proofs.transpose_row.Given as goal
 
 abbrev pub invariant-loop-v : goal.invariant-loop-v
-invariant-loop-v l = Made (λ i. cell l.n l.half i l.u) l.initial.out l.out l.v
+invariant-loop-v l = Made (λ i. cell l.half.n l.half.words.now i l.own.0) l.initial.out l.out l.v

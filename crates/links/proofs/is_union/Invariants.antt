@@ -1,4 +1,4 @@
--- `links::is_union` meets its contract: as `is_same`, with the words of the union.
+-- `links::is_union` meets its contract: the bits gathered are none exactly when each word so far is the same as the union's (`bad_turn_union`).
 -- Assumes nothing.
 use Rattle.std.proofs.Common.{◌≡◌, eqb, length}
 use Rattle.lists.specs.Tab.{every}

@@ -1,7 +1,6 @@
 -- `reach::table` meets its contract: the table where nothing refuses.
 -- Assumes nothing.
 use mathlib.Core.Path.{sym}
-use native.Mathlib.Omega.{arith}
 use Rattle.std.proofs.lemmas.List.{length-take-le}
 use Rattle.reach.specs.Tables.{table_leaves, table_of}
 use Rattle.reach.proofs.Picks.{table_sound}
@@ -15,9 +14,8 @@ slice_bounds-write_table-end-2 c =
 pub write_table-requires : goal.write_table-requires
 write_table-requires c =
     let t = table_sound _ _ _ (sym c.in_ok-lent.ensures.verdict) in
-    let b = t.some_boards in
     let l = c.in_ok-lent.ensures.lent in
-    rw (l.boards, l.count) (omega arith, t.few, sym (length-take-le c.args.n c.args.out.now t.room), t.some_picks)
+    rw (l.boards, l.count) (t.few, sym (length-take-le c.args.n c.args.out.now t.room), t.some_picks)
 
 pub returns : goal.returns
 unfolding table_leaves table_of

@@ -9,4 +9,5 @@ use Rattle.reach.proofs.write_table.Given as goal
 
 abbrev pub invariant-loop-pick : goal.invariant-loop-pick
 invariant-loop-pick l =
-    (l.pick-iterator.size ≡ l.lent.n) × ((length l.out ≡ l.lent.n) × ((k : ℕ) × Reached l.lent.n hops01 l.lent.m l.lent.words.now k l.pick-iterator.rest.now l.out))
+    (l.pick-iterator.size ≡ l.lent.n) × (length l.out ≡ l.lent.n)
+    × ((k : ℕ) × Reached l.lent.n hops01 l.lent.m l.lent.words.now k l.pick-iterator.rest.now l.out)

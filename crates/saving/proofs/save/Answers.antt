@@ -5,5 +5,5 @@ use Rattle.saving.proofs.save.Goals as goal
 
 pub invariant_of-file-clause-clean : goal.invariant_of-file-clause-clean
 invariant_of-file-clause-clean c =
-    let l = c.new-lent.ensures in
-    rw (l.words, l.boards) (clean_lent c.args.n c.args.words.now (rw (l.words, l.boards, l.count) at c.if-not-are_clean.ensures))
+    let l = c.new-lent.result in
+    clean_lent l.n l.m l.words.now l.room c.if-not-are_clean.ensures

@@ -6,4 +6,4 @@ use Rattle.sets.specs.Marks.{marks}
 use Rattle.sets.proofs.column_marks.Given as goal
 
 abbrev pub invariant-loop-w : goal.invariant-loop-w
-invariant-loop-w l = l.sets ≡ tab (λ u. marks (λ i. cell l.n l.half i u) l.w) l.n
+invariant-loop-w l = l.sets ≡ tab (λ u. marks (λ i. cell l.half.n l.half.words.now i u) l.w) l.half.n

@@ -6,4 +6,4 @@ use Rattle.sets.specs.Marks.{marks}
 use Rattle.sets.proofs.some_rows.Given as goal
 
 abbrev pub invariant-loop-w : goal.invariant-loop-w
-invariant-loop-w l = l.set ≡ marks (λ i. any_of (cell l.n l.half i) l.n) l.w
+invariant-loop-w l = l.set ≡ marks (λ i. any_of (cell l.half.n l.half.words.now i) l.half.n) l.w

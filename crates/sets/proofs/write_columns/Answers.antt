@@ -7,4 +7,6 @@ use Rattle.sets.proofs.Bits.{columns_own}
 use Rattle.sets.proofs.write_columns.Goals as goal
 
 pub returns : goal.returns
-returns c = c.with_own.ensures ∙ ap (tab _) (ap length c.column_marks.ensures ∙ length-tab _ _) ∙ columns_own _ _ c.args.half.now _ c.column_marks.ensures
+returns c =
+    c.with_own.ensures ∙ ap (tab _) (ap length c.column_marks.ensures ∙ length-tab _ _)
+    ∙ columns_own _ _ c.args.half.now.words.now _ c.column_marks.ensures

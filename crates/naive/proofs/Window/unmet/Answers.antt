@@ -9,4 +9,5 @@ use Rattle.naive.proofs.Window.unmet.Goals as goal
 pub sum-requires-clause-fits : goal.sum-requires-clause-fits
 sum-requires-clause-fits c =
     let n = c.args.self.now.recording.boards in
-    fits_from_length _ _ 32 _ (at_most_from_yields_List (YieldsList-from_range 0 n n (cc) (omega arith)) (omega (arith, length-range_with_len 0 n))) c.map.ensures.closure (omega arith) (λ x r q k. search (rules, tests))
+    let l = at_most_from_yields_List (YieldsList-from_range 0 n n (cc) (omega arith)) (omega (arith, length-range_with_len 0 n)) in
+    fits_from_length _ _ 32 _ l c.map.ensures.closure (omega arith) (λ x r q k. search (rules, tests))

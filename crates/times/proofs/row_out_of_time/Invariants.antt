@@ -1,7 +1,0 @@
--- `times::row_out_of_time` meets its contract. The invariant: `ways` are those of `u` with the boards below `to`. Assumes nothing.
-use Rattle.std.proofs.Common.{◌≡◌}
-use Rattle.times.specs.Pairs.{below_out_of_time}
-use Rattle.times.proofs.row_out_of_time.Given as goal
-
-abbrev pub invariant-loop-to : goal.invariant-loop-to
-invariant-loop-to l = l.ways ≡ below_out_of_time l.n l.turn l.t l.u l.to
