@@ -134,7 +134,7 @@ pub fn tally_of_a(out: Stdout, table: &mut [u32]) -> Tally {
     for (u, wanted) in [2, 1].iter().enumerate() {
         let got = table.get(u).map_or(0, |word| *word as usize);
         tally.compare(
-            Case::new("A", 1, None).at_part(u),
+            Case::new(b"A", 1, None).at_part(u),
             Outcome::Number(Ok(got)),
             Outcome::Number(Ok(*wanted)),
         );

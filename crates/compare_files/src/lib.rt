@@ -1,9 +1,12 @@
 // The cases that are files: each argument names one, as `compare_listed` reads it.
 #![tactic(auto)]
 
+use calls::Answer;
 use compare_cases::{MARK, Recorded, is_marked};
 use compare_listed::Listed;
-use compare_tallies::{Case, Group, Outcome, Tally};
+use compare_tallies::{Case, Group, Outcome, Printed, Tally};
+use model::Refusal;
+use place::Counts;
 use recording::Reading;
 use std::env::FillError;
 use std::fs::File;
@@ -13,9 +16,10 @@ use std::rt::{Env, Files};
 // The most picks of a file, as `lengths` has it.
 const LIMIT: usize = 40;
 
-// The recording of a file, into words, or how it could not be read. A refused file leaves every word.
-fn load<R: Files>(rt: &R, file: &str, words: &mut [u32]) -> Result<Reading, Outcome> {
-    let Ok(mut source) = File::open(rt, file) else {
+// The recording of a file, into words, or how it could not be read. A refused file leaves every word. A name that is not UTF-8 is none of a file.
+fn load<R: Files>(rt: &R, file: &[u8], words: &mut [u32]) -> Result<Reading, Outcome> {
+    let path = str::from_utf8(file).or(Err(Outcome::NotRun))?;
+    let Ok(mut source) = File::open(rt, path) else {
         return Err(Outcome::NotRun);
     };
     let mut bytes = [0u8; 4096];
@@ -46,13 +50,7 @@ fn compare_listed<R: Files>(
     area: &mut [u32],
 ) {
     match (group, listed) {
-        (
-            Group::ByHand(kind),
-            Listed::Read {
-                file,
-                refusal: None,
-            },
-        ) => {
+        (Group::ByHand(kind), Listed::Read { file, refusal: 0 }) => {
             let case = Case::new(file, number, kind.measure());
             match recorded(rt, case, words) {
                 Some(recorded) => compare_runs::run(tally, kind, &recorded, area),
@@ -68,26 +66,24 @@ fn compare_listed<R: Files>(
             },
         ) => {
             let case = Case::new(file, number, Some(measure));
+            // A recording that cannot be had is one over no boards.
             let got = match recorded(rt, case, words) {
-                Some(recorded) => Outcome::Length(compare_runs::run_whole(
-                    &recorded.recording,
-                    measure,
-                    area,
-                )),
-                None => Outcome::NotRun,
+                Some(recorded) => compare_runs::run_whole(&recorded.recording, measure, area),
+                None => Answer::refused(Refusal::Boards),
             };
-            tally.compare(case, got, Outcome::Length(answer));
+            tally.compare_stated(case, Outcome::Length(got), answer);
         }
         (Group::FilesRead, Listed::Read { file, refusal }) => {
             let got = match load(rt, file, words) {
                 Ok(_) => Outcome::Refusal(None),
                 Err(outcome) => outcome,
             };
-            tally.compare(
-                Case::new(file, number, None),
-                got,
-                Outcome::Refusal(refusal),
-            );
+            let wanted = Printed {
+                value: 0,
+                refusal,
+                counts: Counts::NONE,
+            };
+            tally.compare_stated(Case::new(file, number, None), got, wanted);
         }
         _ => {}
     }
@@ -106,10 +102,7 @@ pub fn tally<R: Env + Files>(
     for number in 1..usize::MAX {
         match rt.arg(number, &mut text) {
             Ok(n) => {
-                let listed = str::from_utf8(&text[..n])
-                    .ok()
-                    .and_then(compare_listed::parse);
-                if let Some(listed) = listed {
+                if let Some(listed) = compare_listed::parse(&text[..n]) {
                     compare_listed(rt, &mut tally, group, number, listed, words, area);
                 }
             }

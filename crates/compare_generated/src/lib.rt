@@ -25,7 +25,7 @@ pub fn tally(out: Stdout, kind: Kind, area: &mut [u32]) -> Tally {
     for i in 0..COUNT {
         let boards = 2 + i % 31;
         let picks = 5 + i % 5;
-        let case = Case::new("recording", i, kind.measure());
+        let case = Case::new(b"recording", i, kind.measure());
         generator.fill(&mut words, boards, SHARES[i % 4]);
         match Recorded::new(case, boards, picks, &words) {
             Some(recorded) => compare_runs::run(&mut tally, kind, &recorded, area),

@@ -10,6 +10,7 @@ use model::{Compositions, Pick, Refusal, Tests};
 use place::{Counts, Place, Settings, TestMarks, Window};
 
 // What a call that is lent words is handed, and the refusal of it. Its settings are those that the call has, and no others.
+#[derive(Clone, Copy)]
 pub struct Edge<S> {
     pub settings: S,
     // how many words are lent
@@ -190,6 +191,7 @@ pub static OPEN_EDGES: &[Edge<Settings>] = &rows![
 
 // ---- reading a file
 
+#[derive(Clone, Copy)]
 pub struct ReadEdge {
     pub limit: usize,
     // how many bytes are lent
@@ -282,6 +284,7 @@ pub static SAVE_EDGES: &[Edge<usize>] = &rows![
 
 // A pick over three boards: the limit, how many picks were taken before, and how many words the area lacks; the words lent, which are 2, 4, 1, and so are
 // those of the list and of the picks before; a fourth is 0.
+#[derive(Clone, Copy)]
 pub struct PickEdge {
     pub limit: usize,
     pub before: usize,
@@ -372,6 +375,7 @@ const WALKED: Place = Place {
 };
 
 // The field that is altered, and what it is.
+#[derive(Clone, Copy)]
 pub enum Field {
     Boards(usize),
     Measure(usize),
@@ -385,6 +389,7 @@ pub enum Field {
     Tests(usize),
 }
 
+#[derive(Clone, Copy)]
 pub struct PlaceEdge {
     pub place: Place,
     pub field: Field,

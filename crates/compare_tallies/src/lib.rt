@@ -5,7 +5,7 @@ use calls::Answer;
 use decision::Decision;
 use model::Refusal;
 use place::Counts;
-use std::io::Stdout;
+use std::io::{Stdout, Write};
 use std::{fmt, io};
 
 // ---- groups
@@ -115,17 +115,18 @@ impl fmt::Display for Group {
 
 // ---- cases
 
-// A case of a group: its file or what it is, its number from 1 on, its measure, and the pick, the row or the step that is looked at.
+// A case of a group: its file or what it is, its number from 1 on, its measure, and the pick, the row or the step that is looked at. The name of a file is
+// any bytes.
 #[derive(Clone, Copy)]
 pub struct Case<'a> {
-    pub name: &'a str,
+    pub name: &'a [u8],
     pub number: usize,
     pub measure: Option<usize>,
     pub part: Option<usize>,
 }
 
 impl<'a> Case<'a> {
-    pub fn new(name: &'a str, number: usize, measure: Option<usize>) -> Self {
+    pub fn new(name: &'a [u8], number: usize, measure: Option<usize>) -> Self {
         Case {
             name,
             number,
@@ -181,6 +182,40 @@ impl Outcome {
     }
 }
 
+// An outcome as it is printed, and as the list of cases states it: there its numbers may be any, and no call need answer them.
+#[derive(Clone, Copy, PartialEq, Eq)]
+pub struct Printed {
+    // A length, a word of a table or the size of a file, 1 for yes and where something was changed; 0 where there is none.
+    pub value: usize,
+    // 0 where there is none, and 999 where the case was not run.
+    pub refusal: usize,
+    // 0 where none belong to it.
+    pub counts: Counts,
+}
+
+impl From<Outcome> for Printed {
+    fn from(outcome: Outcome) -> Self {
+        let (value, counts) = match outcome {
+            Outcome::Length(Answer { length, counts }) => (length.unwrap_or(0), counts),
+            Outcome::Decision(Ok(Decision { yes, counts })) => (usize::from(yes), counts),
+            Outcome::Number(answer) => (answer.unwrap_or(0), Counts::NONE),
+            Outcome::Changed(_) => (1, Counts::NONE),
+            Outcome::Decision(Err(_)) | Outcome::Refusal(_) | Outcome::NotRun => (0, Counts::NONE),
+        };
+        let refusal = match outcome {
+            Outcome::NotRun => 999,
+            _ => outcome
+                .refusal()
+                .map_or(0, |cause| u32::from(cause) as usize),
+        };
+        Printed {
+            value,
+            refusal,
+            counts,
+        }
+    }
+}
+
 // ---- lines
 
 // A number, or a dash where there is none. It is a dash for 0 too: a word with no bit, or the first row of a table.
@@ -196,37 +231,23 @@ impl fmt::Display for Cell {
     }
 }
 
+// What of a case stands behind its name.
 impl fmt::Display for Case<'_> {
     fn fmt<W: fmt::Write>(&self, f: &mut fmt::Formatter<W>) -> fmt::Result {
-        let name = self.name;
         let number = self.number;
         let measure = Cell(self.measure);
         let part = Cell(self.part);
-        write!(f, "{name} {number} {measure} {part}")
+        write!(f, "{number} {measure} {part}")
     }
 }
 
-// The value, 1 for yes and where something was changed; the number of the refusal, 0 where there is none and 999 where the case was not run; both counts, 0
-// where none belong to it.
-impl fmt::Display for Outcome {
+impl fmt::Display for Printed {
     fn fmt<W: fmt::Write>(&self, f: &mut fmt::Formatter<W>) -> fmt::Result {
-        let (value, counts) = match *self {
-            Outcome::Length(Answer { length, counts }) => (length.ok(), counts),
-            Outcome::Decision(Ok(Decision { yes, counts })) => (yes.then_some(1), counts),
-            Outcome::Number(answer) => (answer.ok(), Counts::NONE),
-            Outcome::Changed(_) => (Some(1), Counts::NONE),
-            Outcome::Decision(Err(_)) | Outcome::Refusal(_) | Outcome::NotRun => {
-                (None, Counts::NONE)
-            }
-        };
-        let cell = Cell(value);
-        let refusal = match *self {
-            Outcome::NotRun => 999,
-            _ => self.refusal().map_or(0, u32::from),
-        };
-        let compositions = counts.compositions.0;
-        let tests = counts.tests.0;
-        write!(f, "{cell} {refusal} {compositions} {tests}")
+        let value = Cell(Some(self.value));
+        let refusal = self.refusal;
+        let compositions = self.counts.compositions.0;
+        let tests = self.counts.tests.0;
+        write!(f, "{value} {refusal} {compositions} {tests}")
     }
 }
 
@@ -249,22 +270,41 @@ impl Tally {
         }
     }
 
-    // One case more, and its line where it is a mismatch. A line that cannot be written is counted all the same.
+    // One case more, and its line where it is a mismatch.
     pub fn compare(&mut self, case: Case<'_>, got: Outcome, wanted: Outcome) {
-        self.cases = self.cases.wrapping_add(1);
-        if got == wanted {
-            return;
+        self.count(got == wanted);
+        if got != wanted {
+            self.print_mismatch(case, Printed::from(got), Printed::from(wanted));
         }
-        self.mismatches = self.mismatches.wrapping_add(1);
-        let out = self.out;
+    }
+
+    // The same, where what is wanted is stated as it is printed.
+    pub fn compare_stated(&mut self, case: Case<'_>, got: Outcome, wanted: Printed) {
+        let got = Printed::from(got);
+        self.count(got == wanted);
+        if got != wanted {
+            self.print_mismatch(case, got, wanted);
+        }
+    }
+
+    fn count(&mut self, same: bool) {
+        self.cases = self.cases.wrapping_add(1);
+        self.mismatches = self.mismatches.wrapping_add(u32::from(!same));
+    }
+
+    // A line that cannot be written is counted all the same.
+    fn print_mismatch(&self, case: Case<'_>, got: Printed, wanted: Printed) {
+        let mut out = self.out;
         let group = self.group;
-        let _ = println!(out; "mismatch {group} {case} got {got} wanted {wanted}");
+        let _ = print!(out; "mismatch {group} ");
+        let _ = out.write_all(case.name);
+        let _ = println!(out; " {case} got {got} wanted {wanted}");
     }
 
     // The case of a row of a table: the rows are cases in their order.
     pub fn compare_row(&mut self, got: Outcome, wanted: Option<Refusal>) {
         let number = self.cases as usize + 1;
-        let case = Case::new("row", number, self.group.measure());
+        let case = Case::new(b"row", number, self.group.measure());
         self.compare(case, got, Outcome::Refusal(wanted));
     }
 

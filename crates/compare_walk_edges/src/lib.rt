@@ -104,12 +104,12 @@ pub fn compare_places(tally: &mut Tally, area: &mut [u32], kept: &mut [u32]) {
         let pick = altered_pick(p, edge.lent, area, kept);
         let length = run_length(p);
         tally.compare(
-            Case::new("pick", i + 1, None),
+            Case::new(b"pick", i + 1, None),
             pick,
             Outcome::Refusal(edge.refusal_pick),
         );
         tally.compare(
-            Case::new("length", i + 1, None),
+            Case::new(b"length", i + 1, None),
             length,
             Outcome::Refusal(edge.refusal_length),
         );
@@ -126,12 +126,12 @@ pub fn tally_limit(out: Stdout, area: &mut [u32], kept: &mut [u32]) -> Tally {
     let fresh = compare_walks::opened(2, 3, most, &both, area);
     let full = all_taken(fresh, area, &both, most);
     tally.compare(
-        Case::new("row", 1, Some(3)),
+        Case::new(b"row", 1, Some(3)),
         run_length(fresh),
         Outcome::Refusal(Some(Refusal::NoPick)),
     );
     tally.compare(
-        Case::new("row", 2, Some(3)),
+        Case::new(b"row", 2, Some(3)),
         run_pick(full, area, &both, kept),
         Outcome::Refusal(Some(Refusal::Full)),
     );
@@ -143,7 +143,7 @@ pub fn tally_limit(out: Stdout, area: &mut [u32], kept: &mut [u32]) -> Tally {
         },
     };
     tally.compare(
-        Case::new("full", 3, Some(3)).at_part(most),
+        Case::new(b"full", 3, Some(3)).at_part(most),
         compare_walks::measured(full, most),
         Outcome::Length(wanted),
     );
