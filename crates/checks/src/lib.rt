@@ -1,7 +1,7 @@
 // Checks of a pick or a footprint: forbidden bits, and links outside the footprint.
 #![tactic(auto)]
 
-ghost use Rattle.std.specs.Prelude.{◌≡◌, ◌≤◌, length};
+ghost use Rattle.std.specs.Prelude.{◌≡◌, ◌*◌, ◌≤◌, length};
 ghost use Rattle.lists.specs.Tab.{zeros, splice};
 ghost use Rattle.checks.specs.Checks.{allowed, clean, listed, all_open};
 ghost use Rattle.checks.specs.Lent.{clean_picks};
@@ -69,15 +69,22 @@ fn all_open(n: usize) -> [u32; 32]
     rows
 }
 
-// Whether none of the picks has a forbidden bit. Their union has a bit exactly where some pick has it, so it is asked of the union, once.
+// Whether none of m picks, n words each, has a forbidden bit. Their union has a bit exactly where some pick has it, so it is asked of the union, once.
 #[tactic(auto, using(crate::proofs::United::unions))]
+pub fn are_clean_words(words: &[u32], n: usize, m: usize) -> bool
+    requires { (n ≤ 32) × (m * n ≤ length words.now) }
+    ensures { result ≡ clean_picks n words.now m }
+{
+    let rows = all_open(n);
+    let mut any = lists::zeroed::<32>();
+    links::unite_picks(&mut any[..n], words, n, 0, m);
+    is_listed(&rows[..n], &any[..n])
+}
+
+// The same of picks that are lent.
 pub fn are_clean(lent: &LentPicks<'_>) -> bool
     requires { lent.now.n ≤ 32 }
     ensures { result ≡ clean_picks lent.now.n lent.now.words.now lent.now.m }
 {
-    let n = lent.n;
-    let rows = all_open(n);
-    let mut any = lists::zeroed::<32>();
-    lent.unite_picks(&mut any[..n], 0);
-    is_listed(&rows[..n], &any[..n])
+    are_clean_words(lent.words, lent.n, lent.m)
 }

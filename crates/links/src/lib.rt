@@ -119,21 +119,28 @@ impl<'a> LentPicks<'a> {
     }
 
     // The links of each of the picks after the first `from` join those of out; how many unions were made is counted.
-    #[tactic(auto, using(crate::proofs::Picks::unites), unfolding(crate::specs::Picks::united_picks))]
     pub fn unite_picks(&self, out: &mut [u32], from: usize) -> usize
         requires { self.now.n ≡ length out.old }
         ensures { (result ≡ self.now.m - from) × (out.new ≡ united_picks self.now.n out.old self.now.words.now from (self.now.m - from)) }
     {
-        let n = self.n;
-        let mut made: usize = 0;
-        // By number: `chunks_exact` wants the lesser of `from` and m to begin at, and costs as much.
-        for k in from..self.m {
-            let at = k * n;
-            unite_into(out, &self.words[at..at + n]);
-            made += 1;
-        }
-        made
+        unite_picks(out, self.words, self.n, from, self.m)
     }
+}
+
+// The same of m picks, n words each. They may be picks without a word, which are lent by nobody.
+#[tactic(auto, using(crate::proofs::Picks::unites), unfolding(crate::specs::Picks::united_picks))]
+pub fn unite_picks(out: &mut [u32], words: &[u32], n: usize, from: usize, m: usize) -> usize
+    requires { (n ≡ length out.old) × (m * n ≤ length words.now) }
+    ensures { (result ≡ m - from) × (out.new ≡ united_picks n out.old words.now from (m - from)) }
+{
+    let mut made: usize = 0;
+    // By number: `chunks_exact` wants the lesser of `from` and m to begin at, and costs as much.
+    for k in from..m {
+        let at = k * n;
+        unite_into(out, &words[at..at + n]);
+        made += 1;
+    }
+    made
 }
 
 // ---- compositions: each writes one table over the words of the earlier one
