@@ -25,6 +25,10 @@ ends E words (suc i) h =
 pub fits : {E words i : ℕ} → Has E words i → (i - 1) * E + E ≤ words
 fits {E} {words} {i} h = ends E words i h
 
+-- what is no longer than it is lent from where it begins
+pub lies : {E e k s words i : ℕ} → e ≡ E → k ≡ s → s ≤ E → Has E words i → (i - 1) * e + k ≤ words
+lies p q r h = rw p (omega (arith, fits h))
+
 -- and its table lies in it
 pub table_inside : (k : ℕ) {words i : ℕ} → Has (stored_size k) words i → (i - 1) * stored_size k + k ≤ words
 table_inside k h = omega (arith, fits h, table_fits k)

@@ -119,7 +119,7 @@ differing-number n R l t n32 k a =
 
 -- ---- the bits that are counted
 
-differing_row : (l t : List ℕ) (u : ℕ) → get_or l u 0 < 2 ^ 32 → get_or t u 0 < 2 ^ 32
+pub differing_row : (l t : List ℕ) (u : ℕ) → get_or l u 0 < 2 ^ 32 → get_or t u 0 < 2 ^ 32
     → ones (bit_xor (get_or l u 0) (get_or t u 0)) ≡ how_many (link_differs l t u) 32
 unfolding link_differs link
 differing_row l t u p q =

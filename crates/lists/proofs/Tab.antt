@@ -38,6 +38,13 @@ pub record Made (f : ℕ → ℕ) (t₀ t : List ℕ) (u : ℕ) : Type 0 where
   pub made : (k : ℕ) → k < u → get_or t k 0 ≡ f k
   pub left : (k : ℕ) → u ≤ k → get_or t k 0 ≡ get_or t₀ k 0
 
+pub made_start : {f : ℕ → ℕ} {t₀ : List ℕ} → Made f t₀ t₀ 0
+made_start = record { long = refl; made = λ k l. absurd (omega (arith, l)); left = λ k l. refl }
+
+-- what the loop has not reached is as it was
+pub made_read : {f : ℕ → ℕ} {t₀ t : List ℕ} {u : ℕ} → Made f t₀ t u → get_or t u 0 ≡ get_or t₀ u 0
+made_read {u = u} m = m.left u (omega arith)
+
 -- a turn, for a loop whose word the check does not find
 pub made_turn : {f : ℕ → ℕ} {t₀ t : List ℕ} {u v : ℕ} → Made f t₀ t u → u < length t → v ≡ f u → Made f t₀ (set t u v) (u + 1)
 made_turn m h e = record {
