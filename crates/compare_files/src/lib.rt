@@ -1,9 +1,9 @@
-// The cases that are files: each argument names one, as `compare_listed` reads it.
+// The cases that are files: each argument names one, as `compare_listed::parse_bytes` reads it.
 #![tactic(auto)]
 
 use calls::Answer;
 use compare_cases::{MARK, Recorded, is_marked};
-use compare_listed::Listed;
+use compare_listed::ListedBytes;
 use compare_tallies::{Case, Group, Outcome, Printed, Tally};
 use model::Refusal;
 use place::Counts;
@@ -45,12 +45,12 @@ fn compare_listed<R: Files>(
     tally: &mut Tally,
     group: Group,
     number: usize,
-    listed: Listed<'_>,
+    listed: ListedBytes<'_>,
     words: &mut [u32],
     area: &mut [u32],
 ) {
     match (group, listed) {
-        (Group::ByHand(kind), Listed::Read { file, refusal: 0 }) => {
+        (Group::ByHand(kind), ListedBytes::Read { file, refusal: 0 }) => {
             let case = Case::new(file, number, kind.measure());
             match recorded(rt, case, words) {
                 Some(recorded) => compare_runs::run(tally, kind, &recorded, area),
@@ -59,7 +59,7 @@ fn compare_listed<R: Files>(
         }
         (
             Group::Stated,
-            Listed::Stated {
+            ListedBytes::Stated {
                 file,
                 measure,
                 answer,
@@ -73,7 +73,7 @@ fn compare_listed<R: Files>(
             };
             tally.compare_stated(case, Outcome::Length(got), answer);
         }
-        (Group::FilesRead, Listed::Read { file, refusal }) => {
+        (Group::FilesRead, ListedBytes::Read { file, refusal }) => {
             let got = match load(rt, file, words) {
                 Ok(_) => Outcome::Refusal(None),
                 Err(outcome) => outcome,
@@ -102,7 +102,7 @@ pub fn tally<R: Env + Files>(
     for number in 1..usize::MAX {
         match rt.arg(number, &mut text) {
             Ok(n) => {
-                if let Some(listed) = compare_listed::parse(&text[..n]) {
+                if let Some(listed) = compare_listed::parse_bytes(&text[..n]) {
                     compare_listed(rt, &mut tally, group, number, listed, words, area);
                 }
             }
