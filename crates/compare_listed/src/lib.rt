@@ -25,7 +25,7 @@ pub enum Listed<'a> {
     },
 }
 
-fn whole_number(field: &str) -> Option<usize> {
+fn parse_number(field: &str) -> Option<usize> {
     field.parse().ok()
 }
 
@@ -47,14 +47,14 @@ pub fn parse(text: &str) -> Option<Listed<'_>> {
             refusal: refusal_of(fields.next()?.parse().ok()?).ok()?,
         }),
         6 => {
-            let measure = whole_number(fields.next()?)?;
-            let length = whole_number(fields.next()?);
+            let measure = parse_number(fields.next()?)?;
+            let length = parse_number(fields.next()?);
             let length = match refusal_of(fields.next()?.parse().ok()?).ok()? {
                 None => Ok(length?),
                 Some(cause) => Err(cause),
             };
-            let compositions = Compositions(whole_number(fields.next()?)?);
-            let tests = Tests(whole_number(fields.next()?)?);
+            let compositions = Compositions(parse_number(fields.next()?)?);
+            let tests = Tests(parse_number(fields.next()?)?);
             let counts = Counts {
                 compositions,
                 tests,
@@ -154,7 +154,7 @@ mod tests {
     }
 
     #[test]
-    fn parses_what_a_call_can_answer(rt: HostRuntime) {
+    fn parses_cases_alone(rt: HostRuntime) {
         assert!(rt; refusal("A.loom:0") == Some(None));
         assert!(rt; refusal("A.loom:18") == Some(Some(Refusal::FileRoom)));
         for text in [
